@@ -1,0 +1,6 @@
+pub mod row;
+pub mod kind;
+pub mod append;
+pub mod number;
+pub mod mark;
+pub mod kinds;
