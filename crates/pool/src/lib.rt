@@ -1,0 +1,6 @@
+pub mod node;
+pub mod pool;
+pub mod seen;
+pub mod sharing;
+pub mod finding;
+pub mod builder;
