@@ -1,7 +1,10 @@
 ghost use mathlib.Core.Path.{_≡_};
-ghost use Prim.Native.Nat.{ℕ, _+_, _<_, _≤_};
+ghost use mathlib.Core.Bool.{true};
+ghost use Prim.Native.Nat.{ℕ, _+_, _^_, _<_, _≤_};
 ghost use lib.ListN.{length};
-ghost use Rattle.pool.specs.Finding.{lowest-free, find-run, Lowest, LowestNode};
+ghost use Rattle.std.specs.declared.option.Option.the-variants.{Some, None};
+ghost use Rattle.pool.specs.Memory.{startAt, runAt};
+ghost use Rattle.pool.specs.Finding.{lowest-free, find-run, unused, Lowest, LowestNode};
 ghost use Rattle.pool.specs.Seen.{memory-of};
 use crate::pool::Pool;
 
@@ -22,6 +25,8 @@ impl Pool<'_> {
 
     // Where the first node ends that has one of the n words from `at` on.
     fn blocked(&self, at: usize, n: usize) -> Option<usize>
+        requires { ⌜ at + n < 2 ^ 64 ⌝ }
+        ensures { λ r. ⌜ elim r [ None ↦ unused (now (self .entry) .nodes .now) at n ≡ true | Some e ↦ (at < e) × (e < 2 ^ 17) × ((k : ℕ) × (startAt (now (self .entry) .nodes .now) k < at + n) × (e ≡ startAt (now (self .entry) .nodes .now) k + runAt (now (self .entry) .nodes .now) k)) ] ⌝ }
     {
         for node in self.nodes.iter() {
             let start = node.start as usize;
@@ -40,8 +45,9 @@ impl Pool<'_> {
         ensures lowest { λ r. ⌜ Lowest (memory-of (now (self .entry))) n r ⌝ }
     {
         let n = n as usize;
+        let limit = self.words.len();
         let mut at = 0;
-        while at + n <= self.words.len() {
+        while at + n <= limit {
             match self.blocked(at, n) {
                 None => return Some(at as u16),
                 Some(end) => at = end,

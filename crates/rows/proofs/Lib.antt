@@ -1,0 +1,5 @@
+pub mod Bits
+pub mod Numbers
+pub mod Marks
+pub mod Appending
+pub mod Sets

@@ -1,6 +1,7 @@
 ghost use mathlib.Core.Path.{_≡_};
-ghost use mathlib.Core.Bool.{true};
+ghost use mathlib.Core.Bool.{true, not, _&&_};
 ghost use Prim.Native.Nat.{ℕ, _+_, _<_, _≤_};
+ghost use lib.Dec.{eqb};
 ghost use lib.ListN.{length, getD};
 ghost use denote.Ref.{now};
 ghost use Rattle.rows.specs.Kind.{Kinds};
@@ -69,19 +70,35 @@ pub impl RowKinds for BaseKinds as BaseRowKinds {
     }
 
     fn words(&self, kind: u8, n: u16) -> u16 {
-        if kind == 2 { Mark.words(n) } else { Number.words(n) }
+        if kind == 2 {
+            Mark.words(n)
+        } else {
+            Number.words(n)
+        }
     }
 
     fn read(&self, kind: u8, run: &[u32], n: u16, k: u16) -> Row {
-        if kind == 2 { Mark.read(run, n, k) } else { Number.read(run, n, k) }
+        if kind == 2 {
+            Mark.read(run, n, k)
+        } else {
+            Number.read(run, n, k)
+        }
     }
 
     fn append(&self, kind: u8, run: &mut [u32], n: u16, filled: u16, row: Row) -> u16 {
-        if kind == 2 { append(&Mark, run, n, filled, row) } else { append(&Number, run, n, filled, row) }
+        if kind == 2 {
+            append(&Mark, run, n, filled, row)
+        } else {
+            append(&Number, run, n, filled, row)
+        }
     }
 
     fn width(&self, kind: u8) -> u8 {
-        if kind == 2 { Mark.width() } else { Number.width() }
+        if kind == 2 {
+            Mark.width()
+        } else {
+            Number.width()
+        }
     }
 
     fn widest(&self) -> u8 {
@@ -89,11 +106,19 @@ pub impl RowKinds for BaseKinds as BaseRowKinds {
     }
 
     fn parse(&self, kind: u8, bytes: &[u8]) -> Option<Row> {
-        if kind == 2 { Mark.parse(bytes) } else { Number.parse(bytes) }
+        if kind == 2 {
+            Mark.parse(bytes)
+        } else {
+            Number.parse(bytes)
+        }
     }
 
     fn byte(&self, kind: u8, row: Row, j: u8) -> u8 {
-        if kind == 2 { Mark.byte(row, j) } else { Number.byte(row, j) }
+        if kind == 2 {
+            Mark.byte(row, j)
+        } else {
+            Number.byte(row, j)
+        }
     }
 }
 
@@ -103,4 +128,75 @@ pub struct Joined<S, K> {
     pub set: S,
     pub number: u8,
     pub kind: K,
+}
+
+impl<S: RowKinds, K: RowKind> Joined<S, K> {
+    // Whether the number is that of the kind more, and the set has it not.
+    fn adds(&self, kind: u8) -> bool
+        ensures { λ r. ⌜ r ≡ not (S·RowKinds .kinds (now (self .entry) .set) .has kind) && eqb kind (now (self .entry) .number) ⌝ }
+    {
+        !self.set.has(kind) && kind == self.number
+    }
+}
+
+pub impl<S: RowKinds, K: RowKind> RowKinds for Joined<S, K> as JoinedRowKinds {
+    ghost kinds = { λ s. joined-kinds (S·RowKinds .kinds (s .set)) (s .number) (K·RowKind .means (s .kind)) };
+
+    fn has(&self, kind: u8) -> bool {
+        self.set.has(kind) || kind == self.number
+    }
+
+    fn words(&self, kind: u8, n: u16) -> u16 {
+        if self.adds(kind) {
+            self.kind.words(n)
+        } else {
+            self.set.words(kind, n)
+        }
+    }
+
+    fn read(&self, kind: u8, run: &[u32], n: u16, k: u16) -> Row {
+        if self.adds(kind) {
+            self.kind.read(run, n, k)
+        } else {
+            self.set.read(kind, run, n, k)
+        }
+    }
+
+    fn append(&self, kind: u8, run: &mut [u32], n: u16, filled: u16, row: Row) -> u16 {
+        if self.adds(kind) {
+            append(&self.kind, run, n, filled, row)
+        } else {
+            self.set.append(kind, run, n, filled, row)
+        }
+    }
+
+    fn width(&self, kind: u8) -> u8 {
+        if self.adds(kind) {
+            self.kind.width()
+        } else {
+            self.set.width(kind)
+        }
+    }
+
+    fn widest(&self) -> u8 {
+        let set = self.set.widest();
+        let kind = self.kind.width();
+        if set < kind { kind } else { set }
+    }
+
+    fn parse(&self, kind: u8, bytes: &[u8]) -> Option<Row> {
+        if self.adds(kind) {
+            self.kind.parse(bytes)
+        } else {
+            self.set.parse(kind, bytes)
+        }
+    }
+
+    fn byte(&self, kind: u8, row: Row, j: u8) -> u8 {
+        if self.adds(kind) {
+            self.kind.byte(row, j)
+        } else {
+            self.set.byte(kind, row, j)
+        }
+    }
 }

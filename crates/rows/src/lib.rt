@@ -1,6 +1,7 @@
-pub mod row;
-pub mod kind;
 pub mod append;
-pub mod number;
-pub mod mark;
+pub mod kind;
 pub mod kinds;
+pub mod mark;
+pub mod number;
+pub mod row;
+pub mod words;

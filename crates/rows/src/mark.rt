@@ -1,6 +1,9 @@
 ghost use Rattle.rows.specs.Ours.{mark};
 use crate::kind::RowKind;
 use crate::row::Row;
+use crate::words::bit_of;
+use crate::words::put_bit;
+use crate::words::word_at;
 
 // A mark, 0 or 1: row k is bit k mod 32 of word k div 32, the lowest bit first, as in an Arrow bitmap.
 #[derive(Clone, Copy)]
@@ -18,14 +21,15 @@ pub impl RowKind for Mark as MarkKind {
     }
 
     fn read(&self, run: &[u32], _n: u16, k: u16) -> Row {
-        let word = run.get(k as usize / 32).copied().unwrap_or(0);
-        Row { value: (word >> (k % 32)) & 1 }
+        let word = word_at(run, k as usize / 32);
+        Row {
+            value: bit_of(word, k % 32),
+        }
     }
 
     fn write(&self, run: &mut [u32], _n: u16, k: u16, row: Row) {
-        let word = run[k as usize / 32];
-        let old = (word >> (k % 32)) & 1;
-        run[k as usize / 32] = word - (old << (k % 32)) + (row.value << (k % 32));
+        let i = k as usize / 32;
+        run[i] = put_bit(run[i], k % 32, row.value);
     }
 
     fn width(&self) -> u8 {

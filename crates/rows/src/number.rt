@@ -1,6 +1,7 @@
 ghost use Rattle.rows.specs.Ours.{number};
 use crate::kind::RowKind;
 use crate::row::Row;
+use crate::words::word_at;
 
 // A number: a word a row, and four bytes in a line, the high one first.
 #[derive(Clone, Copy)]
@@ -18,8 +19,9 @@ pub impl RowKind for Number as NumberKind {
     }
 
     fn read(&self, run: &[u32], _n: u16, k: u16) -> Row {
-        let value = run.get(k as usize).copied().unwrap_or(0);
-        Row { value }
+        Row {
+            value: word_at(run, k as usize),
+        }
     }
 
     fn write(&self, run: &mut [u32], _n: u16, k: u16, row: Row) {
@@ -32,7 +34,9 @@ pub impl RowKind for Number as NumberKind {
 
     fn parse(&self, bytes: &[u8]) -> Option<Row> {
         match bytes {
-            [a, b, c, d] => Some(Row { value: u32::from_be_bytes([*a, *b, *c, *d]) }),
+            [a, b, c, d] => Some(Row {
+                value: u32::from_be_bytes([*a, *b, *c, *d]),
+            }),
             _ => None,
         }
     }

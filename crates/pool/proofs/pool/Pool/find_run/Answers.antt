@@ -1,0 +1,29 @@
+use mathlib.Core.Path.{_≡_, sym, subst, _∙_}
+use native.Mathlib.Omega.{arith}
+use borrow.Author.Needs.{needs}
+use Rattle.pool.specs.Memory.{Memory}
+use Rattle.pool.specs.Seen.{memory-of}
+use Rattle.pool.proofs.Found.{run-begins, run-here, run-past, run-skips}
+use Rattle.pool.proofs.pool.Pool.find_run.Needs as need
+
+pub loop-at-holds : need.loop-at-holds
+loop-at-holds c = (omega arith, run-begins (memory-of (c .args .self .now)) (c .args .n))
+
+pub loop-at-again : need.loop-at-again
+loop-at-again c =
+    let b = c .in-Some .ensures tt in
+    (b .1, c .loop-at .inv .1 ∙ run-skips (memory-of (c .args .self .now)) (c .args .n) (c .loop-at .at) (b .2 .0) (c .in-Some .end) (b .0) (b .2 .1) (b .2 .2))
+
+pub returns-in-None : need.returns-in-None
+returns-in-None c =
+    record {
+        value = sym (c .loop-at .inv .1 ∙ run-here (memory-of (c .args .self .now)) (c .args .n) (c .loop-at .at) (c .loop-at-test .taken) (c .in-None .ensures tt));
+        lowest = ?
+    }
+
+pub returns : need.returns
+returns c =
+    record {
+        value = sym (c .loop-at .inv .1 ∙ run-past (memory-of (c .args .self .now)) (c .args .n) (c .loop-at .at) (c .loop-at-test .left));
+        lowest = ?
+    }

@@ -1,0 +1,4 @@
+pub mod fill;
+#[cfg(test)]
+mod tests;
+pub mod wide;
