@@ -20,7 +20,7 @@ use Rattle.pool.specs.Memory.{Memory, blank, no-slots, node-at, countAt, start
 use Rattle.pool.specs.Order.{Ordered, Change}
 use Rattle.pool.specs.Finding.{lowest-free, find-run, Room, Lowest, LowestNode}
 use Rattle.pool.specs.Building.{open-node, opened, append-row, append-rows, finished, built}
-use Rattle.pool.proofs.Found.{Seated, lowest-free-is, find-run-is, found-room}
+use Rattle.pool.proofs.Found.{lowest-free-is, find-run-is, found-room}
 use Rattle.pool.proofs.Placing.{placed, placed-change, over-long, over-part, over-over, over-same}
 
 -- appending row by row writes the run that all the rows come to
@@ -175,9 +175,9 @@ refused-nodes ks m kind n rs = go (lowest-free (m .nodes) 0) (lowest-free-is (m 
     go (Some i) a None e = absurd (let z : _≡_ {A = ℕ} 0 1 = cc in omega arith)
     go (Some i) a (Some s) e = absurd (let z : _≡_ {A = ℕ} 0 1 = cc in omega arith)
 
-pub refused-words : (ks : Kinds) (m : Memory) (kind n : ℕ) (rs : List Row) → Seated (m .nodes) → built ks m kind n rs .0 ≡ Err Words
+pub refused-words : (ks : Kinds) (m : Memory) (kind n : ℕ) (rs : List Row) → built ks m kind n rs .0 ≡ Err Words
     → ((i : ℕ) × (i < length (m .nodes)) × (countAt (m .nodes) i ≡ 0)) × ((s : ℕ) → Room m (ks .kind kind .words n) s → ⊥)
-refused-words ks m kind n rs seated = go (lowest-free (m .nodes) 0) (lowest-free-is (m .nodes)) (find-run m (ks .kind kind .words n)) (find-run-is m (ks .kind kind .words n) seated)
+refused-words ks m kind n rs = go (lowest-free (m .nodes) 0) (lowest-free-is (m .nodes)) (find-run m (ks .kind kind .words n)) (find-run-is m (ks .kind kind .words n))
   where
     go : (f : Option ℕ) → LowestNode (m .nodes) f → (r : Option ℕ) → Lowest m (ks .kind kind .words n) r → found ks m kind n rs f r .0 ≡ Err Words
         → ((i : ℕ) × (i < length (m .nodes)) × (countAt (m .nodes) i ≡ 0)) × ((s : ℕ) → Room m (ks .kind kind .words n) s → ⊥)

@@ -1,16 +1,16 @@
 -- The lowest free node, and the lowest run of unused words.
 use mathlib.Core.Path.{_≡_, refl, sym, ap, ap₂, subst, _∙_}
 use mathlib.Core.List.{List, [], _∷_}
-use mathlib.Core.Bool.{Bool, true, false, _&&_}
+use mathlib.Core.Bool.{Bool, true, false}
 use mathlib.Core.Logic.{_⊎_, inl, inr, ⊎-elim}
-use Prim.Native.Nat.{ℕ, zero, suc, _+_, _-_, _<_, _≤_}
+use Prim.Native.Nat.{ℕ, zero, suc, max, min, _+_, _-_, _<_, _≤_}
 use native.Mathlib.Nat.{zero-add, add-zero}
 use native.Mathlib.Numerals.{add-one}
 use native.Mathlib.Omega.{arith}
 use lib.ListN.{length, getD, drop}
 use lib.Dec.{eqb, ltb}
 use Rattle.std.proofs.shelf.Lists.{at-drop-more, at-drop-all}
-use Rattle.std.proofs.shelf.Tests.{cases-bool, cases-lt, eq-eqb, ne-eqb, eqb-true, eqb-false, lt-ltb, le-ltb, ltb-true, ltb-false, and-parts, and-from, and-left, and-right, true≢false, false≢true}
+use Rattle.std.proofs.shelf.Tests.{cases-bool, cases-lt, eq-eqb, ne-eqb, eqb-true, eqb-false, lt-ltb, le-ltb, ltb-true, ltb-false, true≢false, false≢true}
 use Rattle.std.specs.declared.option.Option.{Option}
 use Rattle.std.specs.declared.option.Option.the-variants.{Some, None}
 use Rattle.pool.specs.declared.node.Node.{Node}
@@ -68,48 +68,44 @@ lowest-free-is ns = go (lowest-free ns 0) (node-from ns 0)
         (omega arith, ap (λ (j : ℕ). countAt ns j) (sym z) ∙ h .2, λ k l. h .3 k (omega arith))
 
 -- ---- runs
--- a word from `at` on, and before the end of a run that starts before at + n
-met : (nd : Node) (at n : ℕ) → at < nd .start + nd .run → nd .start < at + n → meets nd at n ≡ true
-met nd at n a b = and-from (ltb at (nd .start + nd .run)) (ltb (nd .start) (at + n)) (lt-ltb at (nd .start + nd .run) a) (lt-ltb (nd .start) (at + n) b)
+-- one of the n words from `at` on is in the run
+abbrev pub Met : ℕ → ℕ → ℕ → ℕ → Type 0
+Met start run at n = (0 < n) × (0 < run) × (at < start + run) × (start < at + n)
 
-not-met : (nd : Node) (at n : ℕ) → (nd .start + nd .run ≤ at) ⊎ (at + n ≤ nd .start) → meets nd at n ≡ false
-not-met nd at n h =
-    ⊎-elim
-        (λ a. and-left (ltb at (nd .start + nd .run)) (ltb (nd .start) (at + n)) (le-ltb at (nd .start + nd .run) a))
-        (λ a. and-right (ltb at (nd .start + nd .run)) (ltb (nd .start) (at + n)) (le-ltb (nd .start) (at + n) a))
-        h
+met : (nd : Node) (at n : ℕ) → Met (nd .start) (nd .run) at n → meets nd at n ≡ true
+met nd at n h = lt-ltb (max at (nd .start)) (min (at + n) (nd .start + nd .run)) (omega arith)
 
-met-parts : (nd : Node) (at n : ℕ) → meets nd at n ≡ true → (at < nd .start + nd .run) × (nd .start < at + n)
+met-parts : (nd : Node) (at n : ℕ) → meets nd at n ≡ true → Met (nd .start) (nd .run) at n
 met-parts nd at n e =
-    let p = and-parts (ltb at (nd .start + nd .run)) (ltb (nd .start) (at + n)) e in
-    (ltb-true at (nd .start + nd .run) (p .0), ltb-true (nd .start) (at + n) (p .1))
+    let l = ltb-true (max at (nd .start)) (min (at + n) (nd .start + nd .run)) e in
+    (omega arith, omega arith, omega arith, omega arith)
 
 -- the test of the nodes that follow one, by the test of that one
 after : List Node → ℕ → ℕ → Bool → Bool
 after ns at n b = elim b [ true ↦ false | false ↦ unused ns at n ]
 
-pub unused-next : (ns : List Node) (i at n : ℕ) (d : Node) → i < length ns → (getD ns i d .start + getD ns i d .run ≤ at) ⊎ (at + n ≤ getD ns i d .start) → unused (drop i ns) at n ≡ unused (drop (i + 1) ns) at n
+pub unused-next : (ns : List Node) (i at n : ℕ) (d : Node) → i < length ns → min (at + n) (getD ns i d .start + getD ns i d .run) ≤ max at (getD ns i d .start) → unused (drop i ns) at n ≡ unused (drop (i + 1) ns) at n
 unfolding after
-unused-next ns i at n d h e = at-drop-more (λ l. unused l at n) ns i d h ∙ ap (after (drop (i + 1) ns) at n) (not-met (getD ns i d) at n e)
+unused-next ns i at n d h e = at-drop-more (λ l. unused l at n) ns i d h ∙ ap (after (drop (i + 1) ns) at n) (le-ltb (max at (getD ns i d .start)) (min (at + n) (getD ns i d .start + getD ns i d .run)) e)
 
 pub unused-all : (ns : List Node) (i at n : ℕ) → length ns ≤ i → unused (drop i ns) at n ≡ true
 unused-all ns i at n h = at-drop-all (λ l. unused l at n) ns i h
 
 -- a run that meets the n words
-pub used-at : (ns : List Node) (at n k : ℕ) → at < startAt ns k + runAt ns k → startAt ns k < at + n → unused ns at n ≡ false
+pub used-at : (ns : List Node) (at n k : ℕ) → Met (startAt ns k) (runAt ns k) at n → unused ns at n ≡ false
 unfolding after
-used-at [] at n k a b = absurd (omega arith)
-used-at (nd ∷ ns) at n zero a b = ap (after ns at n) (met nd at n a b)
-used-at (nd ∷ ns) at n (suc k) a b =
-    ⊎-elim (λ e. ap (after ns at n) e) (λ e. ap (after ns at n) e ∙ used-at ns at n k a b) (cases-bool (meets nd at n))
+used-at [] at n k h = absurd (omega arith)
+used-at (nd ∷ ns) at n zero h = ap (after ns at n) (met nd at n h)
+used-at (nd ∷ ns) at n (suc k) h =
+    ⊎-elim (λ e. ap (after ns at n) e) (λ e. ap (after ns at n) e ∙ used-at ns at n k h) (cases-bool (meets nd at n))
 
-pub used-by : (ns : List Node) (at n : ℕ) → unused ns at n ≡ false → (k : ℕ) × (at < startAt ns k + runAt ns k) × (startAt ns k < at + n)
+pub used-by : (ns : List Node) (at n : ℕ) → unused ns at n ≡ false → (k : ℕ) × Met (startAt ns k) (runAt ns k) at n
 unfolding after
 used-by [] at n e = absurd (true≢false e)
 used-by (nd ∷ ns) at n e =
     ⊎-elim
-        (λ t. let p = met-parts nd at n t in (0, p .0, p .1))
-        (λ t. let r = used-by ns at n (sym (ap (after ns at n) t) ∙ e) in (suc (r .0), r .1, r .2))
+        (λ t. (0, met-parts nd at n t))
+        (λ t. let r = used-by ns at n (sym (ap (after ns at n) t) ∙ e) in (suc (r .0), r .1))
         (cases-bool (meets nd at n))
 
 -- the search from `at` on, by the test there
@@ -149,9 +145,9 @@ run-past m n at h =
     ap (λ (f : ℕ). lowest-run f (m .nodes) at n) z
 
 -- where a run meets the n words, no start up to its end is free
-pub run-skips : (m : Memory) (n at k e : ℕ) → at < e → startAt (m .nodes) k < at + n → e ≡ startAt (m .nodes) k + runAt (m .nodes) k → run-from m n at ≡ run-from m n e
-run-skips m n at k e a b c =
-    lowest-skip (e - at) (suc (length (m .words)) - n - at) (m .nodes) at n (λ t l u. used-at (m .nodes) t n k (omega arith) (omega arith))
+pub run-skips : (m : Memory) (n at k e : ℕ) → at < e → 0 < n → startAt (m .nodes) k < at + n → 0 < runAt (m .nodes) k → e ≡ startAt (m .nodes) k + runAt (m .nodes) k → run-from m n at ≡ run-from m n e
+run-skips m n at k e a p b q c =
+    lowest-skip (e - at) (suc (length (m .words)) - n - at) (m .nodes) at n (λ t l u. used-at (m .nodes) t n k (p, q, omega arith, omega arith))
     ∙ again (suc (length (m .words)) - n - at - (e - at)) (suc (length (m .words)) - n - e) (m .nodes) (at + (e - at)) e n (omega arith) (omega arith)
 
 RunFrom : List Node → ℕ → ℕ → ℕ → Option ℕ → Type 0
@@ -178,7 +174,7 @@ find-run-from m n = runs-from (suc (length (m .words)) - n) (m .nodes) 0 n
 
 room-of : (m : Memory) (n s : ℕ) → s + n ≤ length (m .words) → unused (m .nodes) s n ≡ true → Room m n s
 room-of m n s h e =
-    record { inside = h; clear = λ k i a b c d. true≢false (sym e ∙ used-at (m .nodes) s n k (omega arith) (omega arith)) }
+    record { inside = h; clear = λ k i a b c d. true≢false (sym e ∙ used-at (m .nodes) s n k (omega arith, omega arith, omega arith, omega arith)) }
 
 -- what is found has room, whatever the nodes are
 pub found-room : (m : Memory) (n s : ℕ) → find-run m n ≡ Some s → Room m n s
@@ -187,39 +183,16 @@ found-room m n s e =
     let h = subst (λ (o : Option ℕ). RunFrom (m .nodes) (suc (length (m .words)) - n) 0 n o) e (find-run-from m n) in
     room-of m n s (omega arith) (h .2)
 
--- a node with no run starts at 0
-abbrev pub Seated : List Node → Type 0
-Seated ns = (k : ℕ) → runAt ns k ≡ 0 → startAt ns k ≡ 0
-
-no-room : (m : Memory) (n s : ℕ) → Seated (m .nodes) → 0 < n → unused (m .nodes) s n ≡ false → Room m n s → ⊥
-no-room m n s seated some e room =
+no-room : (m : Memory) (n s : ℕ) → unused (m .nodes) s n ≡ false → Room m n s → ⊥
+no-room m n s e room =
     let u = used-by (m .nodes) s n e in
-    ⊎-elim
-        (λ (l : startAt (m .nodes) (u .0) ≤ s). room .clear (u .0) s (omega arith) (omega arith) l (u .1))
-        (λ (l : s < startAt (m .nodes) (u .0)).
-            ⊎-elim
-                (λ (p : 0 < runAt (m .nodes) (u .0)). room .clear (u .0) (startAt (m .nodes) (u .0)) (omega arith) (u .2) (omega arith) (omega arith))
-                (λ (p : runAt (m .nodes) (u .0) ≤ 0). let z = seated (u .0) (omega arith) in omega arith)
-                (cases-lt 0 (runAt (m .nodes) (u .0))))
-        (let c : (startAt (m .nodes) (u .0) ≤ s) ⊎ (s < startAt (m .nodes) (u .0)) = ⊎-elim (λ x. inr x) (λ x. inl x) (cases-lt s (startAt (m .nodes) (u .0))) in c)
+    let h = u .1 in
+    room .clear (u .0) (max s (startAt (m .nodes) (u .0))) (omega arith) (omega arith) (omega arith) (omega arith)
 
--- no words are free everywhere
-none-used : (ns : List Node) → unused ns 0 0 ≡ true
-none-used ns = ⊎-elim (λ e. e) (λ e. let u = used-by ns 0 0 e in absurd (omega arith)) (cases-bool (unused ns 0 0))
-
-pub find-run-is : (m : Memory) (n : ℕ) → Seated (m .nodes) → Lowest m n (find-run m n)
+pub find-run-is : (m : Memory) (n : ℕ) → Lowest m n (find-run m n)
 unfolding RunFrom
-find-run-is m n seated = go (find-run m n) (find-run-from m n)
+find-run-is m n = go (find-run m n) (find-run-from m n)
   where
-    some : (t : ℕ) → unused (m .nodes) t n ≡ false → Room m n t → ((z : n ≡ 0) → ⊥) → ⊥
-    some t e r z = no-room m n t seated (omega arith) e r
-
     go : (o : Option ℕ) → RunFrom (m .nodes) (suc (length (m .words)) - n) 0 n o → Lowest m n o
-    go None h = λ s r.
-        let i = r .inside in
-        some s (h s (omega arith) (omega arith)) r
-            (λ z. true≢false (sym (none-used (m .nodes)) ∙ ap (λ (j : ℕ). unused (m .nodes) 0 j) (sym z) ∙ h 0 (omega arith) (omega arith)))
-    go (Some s) h =
-        (room-of m n s (omega arith) (h .2),
-         λ t l r. some t (h .3 t (omega arith) l) r
-             (λ z. true≢false (sym (none-used (m .nodes)) ∙ ap (λ (j : ℕ). unused (m .nodes) 0 j) (sym z) ∙ h .3 0 (omega arith) (omega arith))))
+    go None h = λ s r. let i = r .inside in no-room m n s (h s (omega arith) (omega arith)) r
+    go (Some s) h = (room-of m n s (omega arith) (h .2), λ t l r. no-room m n t (h .3 t (omega arith) l) r)

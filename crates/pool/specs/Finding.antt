@@ -1,8 +1,8 @@
 -- The lowest free node, and the lowest run of unused words.
 use mathlib.Core.Path.{_≡_}
 use mathlib.Core.List.{List, [], _∷_}
-use mathlib.Core.Bool.{Bool, true, false, _&&_}
-use Prim.Native.Nat.{ℕ, zero, suc, _+_, _-_, _<_, _≤_}
+use mathlib.Core.Bool.{Bool, true, false}
+use Prim.Native.Nat.{ℕ, zero, suc, max, min, _+_, _-_, _<_, _≤_}
 use lib.ListN.{length, getD}
 use lib.Dec.{eqb, ltb}
 use Rattle.std.specs.declared.option.Option.{Option}
@@ -17,7 +17,7 @@ lowest-free (nd ∷ ns) i = elim (eqb (nd .count) 0) [ true ↦ Some i | false �
 
 -- the node has one of the n words from `at` on
 abbrev pub meets : Node → ℕ → ℕ → Bool
-meets nd at n = ltb at (nd .start + nd .run) && ltb (nd .start) (at + n)
+meets nd at n = ltb (max at (nd .start)) (min (at + n) (nd .start + nd .run))
 
 -- none of the n words from `at` on is in use
 abbrev pub unused : List Node → ℕ → ℕ → Bool

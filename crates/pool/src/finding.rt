@@ -26,12 +26,12 @@ impl Pool<'_> {
     // Where the first node ends that has one of the n words from `at` on.
     fn blocked(&self, at: usize, n: usize) -> Option<usize>
         requires { ⌜ at + n < 2 ^ 64 ⌝ }
-        ensures { λ r. ⌜ elim r [ None ↦ unused (now (self .entry) .nodes .now) at n ≡ true | Some e ↦ (at < e) × (e < 2 ^ 17) × ((k : ℕ) × (startAt (now (self .entry) .nodes .now) k < at + n) × (e ≡ startAt (now (self .entry) .nodes .now) k + runAt (now (self .entry) .nodes .now) k)) ] ⌝ }
+        ensures { λ r. ⌜ elim r [ None ↦ unused (now (self .entry) .nodes .now) at n ≡ true | Some e ↦ (at < e) × (e < 2 ^ 17) × (0 < n) × ((k : ℕ) × (startAt (now (self .entry) .nodes .now) k < at + n) × (0 < runAt (now (self .entry) .nodes .now) k) × (e ≡ startAt (now (self .entry) .nodes .now) k + runAt (now (self .entry) .nodes .now) k)) ] ⌝ }
     {
         for node in self.nodes.iter() {
             let start = node.start as usize;
             let end = start + node.run as usize;
-            if at < end && start < at + n {
+            if at.max(start) < end.min(at + n) {
                 return Some(end);
             }
         }

@@ -1,0 +1,3 @@
+pub mod matcher;
+pub mod encoding;
+pub mod flat;

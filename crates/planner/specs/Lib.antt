@@ -1,0 +1,6 @@
+pub mod Invariant
+pub mod Calls
+pub mod Called
+pub mod Law
+pub mod Seen
+pub mod Contract

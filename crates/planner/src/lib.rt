@@ -1,0 +1,8 @@
+pub mod call;
+pub mod planner;
+
+
+
+
+pub mod listener;
+

@@ -1,0 +1,88 @@
+ghost use mathlib.Core.Path.{_≡_};
+ghost use mathlib.Core.Bool.{true};
+ghost use Prim.Native.Nat.{ℕ, _*_, _<_, _≤_};
+ghost use lib.ListN.{length};
+ghost use Rattle.std.specs.Options.{isSome};
+ghost use Rattle.pool.specs.Building.{built};
+ghost use Rattle.pool.specs.Seen.{memory-of};
+ghost use Rattle.planner.specs.Called.{in-range, parsed-rows};
+ghost use Rattle.planner.specs.Calls.{make};
+ghost use Rattle.planner.specs.Contract.{outcome, rows-parsed, Does};
+ghost use Rattle.planner.specs.Seen.{state-of};
+use crate::call::Refusal;
+use crate::call::RefusalFromPool;
+use crate::planner::Planner;
+use crate::planner::ROOTS;
+use encodings::encoding::Encoding;
+use encodings::matcher::Matcher;
+use optimizer::Bank;
+use pool::builder::Builder;
+use pool::node::PoolFault;
+use pool::pool::Pool;
+use rows::kinds::RowKinds;
+use rows::row::MAX_ROWS;
+
+// Whether a kind exists and the length is in range.
+fn in_range<K: RowKinds>(kinds: &K, kind: u8, len: u16) -> bool
+    ensures { λ r. ⌜ r ≡ in-range (K·RowKinds .kinds (now (kinds .entry))) kind len ⌝ }
+{
+    kinds.has(kind) && len <= MAX_ROWS
+}
+
+// Whether each of the rows is one that the kind takes.
+fn all_parse<K: RowKinds>(kinds: &K, kind: u8, len: u16, rows: &[u8]) -> bool
+    requires { ⌜ length (now rows) ≡ len * K·RowKinds .kinds (now kinds) .kind kind .width ⌝ }
+    ensures { λ r. ⌜ r ≡ isSome (parsed-rows (K·RowKinds .kinds (now (kinds .entry)) .kind kind) len (now (rows .entry))) ⌝ }
+{
+    let width = kinds.width(kind) as usize;
+    for k in 0..len as usize {
+        if let None = kinds.parse(kind, &rows[k * width..k * width + width]) {
+            return false;
+        }
+    }
+    true
+}
+
+// A Flat array of the rows that the bytes stand for.
+fn build<K: RowKinds>(pool: &mut Pool, kinds: &K, kind: u8, len: u16, rows: &[u8]) -> Result<u8, PoolFault>
+    requires sized { ⌜ length (now pool .nodes .now) ≡ 256 ⌝ ∗ ⌜ length (now pool .words .now) ≡ 8192 ⌝ ∗ ⌜ len ≤ 1024 ⌝ }
+    requires bytes { ⌜ length (now rows) ≡ len * K·RowKinds .kinds (now kinds) .kind kind .width ⌝ }
+    requires parse { ⌜ isSome (parsed-rows (K·RowKinds .kinds (now kinds) .kind kind) len (now rows)) ≡ true ⌝ }
+    ensures { λ r. ⌜ (r, memory-of (now (pool .exit))) ≡ built (K·RowKinds .kinds (now (kinds .entry))) (memory-of (now (pool .entry))) kind len (rows-parsed (K·RowKinds .kinds (now (kinds .entry)) .kind kind) len (now (rows .entry))) ⌝ }
+{
+    let node = pool.open_builder(kinds, kind, len)?;
+    let mut builder = Builder { node, filled: 0 };
+    let width = kinds.width(kind) as usize;
+    for k in 0..len as usize {
+        if let Some(row) = kinds.parse(kind, &rows[k * width..k * width + width]) {
+            pool.append(kinds, &mut builder, row);
+        }
+    }
+    Ok(pool.finish(builder))
+}
+
+impl<K: RowKinds, E: Encoding, B: Bank, M: Matcher> Planner<'_, K, E, B, M> {
+    // Puts a Flat array of `len` rows of a kind, as the bytes stand for them, under a root.
+    pub fn make(&mut self, root: u8, kind: u8, len: u16, rows: &[u8]) -> Result<(), Refusal>
+        ensures does { λ r. ⌜ Does (K·RowKinds .kinds (now (self .entry) .kinds)) (E·Encoding .means (now (self .entry) .encodings) (K·RowKinds .kinds (now (self .entry) .kinds))) (state-of (now (self .entry))) (make root kind len (now (rows .entry))) (outcome r) (state-of (now (self .exit))) ⌝ }
+        ensures kinds { λ _. ⌜ now (self .exit) .kinds ≡ now (self .entry) .kinds ⌝ }
+        ensures encodings { λ _. ⌜ now (self .exit) .encodings ≡ now (self .entry) .encodings ⌝ }
+    {
+        let known = in_range(&self.kinds, kind, len);
+        if known && rows.len() != len as usize * self.kinds.width(kind) as usize {
+            return Err(Refusal::Line);
+        }
+        if root as usize >= ROOTS {
+            return Err(Refusal::RootRange);
+        }
+        if let Some(_) = self.roots[root as usize] {
+            return Err(Refusal::RootTaken);
+        }
+        if !known || !all_parse(&self.kinds, kind, len, rows) {
+            return Err(Refusal::Field);
+        }
+        let node = build(&mut self.pool, &self.kinds, kind, len, rows)?;
+        self.roots[root as usize] = Some(node);
+        Ok(())
+    }
+}
