@@ -26,7 +26,7 @@ use Rattle.planner.specs.Law.{Moment, History, state-after, Always, Answered, 
 use Rattle.pool.proofs.Counted.{heights-falling}
 use Rattle.pool.proofs.Reached.{counts-exact}
 use Rattle.planner.proofs.Steps.{Good, Effect, Step, call-step}
-use Rattle.planner.proofs.New.{none-at, new-good}
+use Rattle.planner.proofs.Beginning.{none-at, new-good}
 
 module _ (ks : Kinds) (es : Encodings) where
   -- the rows of what a root names

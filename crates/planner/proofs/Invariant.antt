@@ -11,8 +11,10 @@ use Rattle.std.specs.declared.option.Option.{Option}
 use Rattle.std.specs.declared.option.Option.the-variants.{Some, None}
 use Rattle.pool.specs.declared.node.Node.{Node}
 use Rattle.pool.specs.Memory.{Memory, no-slots, free-node, slotsAt}
-use Rattle.pool.specs.Counts.{Counts, Heights}
+use Rattle.pool.specs.Counts.{names, Counts, Heights}
 use Rattle.pool.specs.Order.{Low, Eight, Within, Apart, Slotless, Freed, Cleared, Ordered}
+use Rattle.planner.specs.declared.planner.Planner.{Planner}
+use Rattle.planner.specs.Seen.{state-of}
 use Rattle.planner.specs.Invariant.{Disjoint, absent, vacant, Vacant}
 
 absent-slots : (ss : List (Option ℕ)) → absent ss ≡ true → ss ≡ replicate (length ss) None
@@ -57,3 +59,22 @@ apart-of ns d j k ne a b l = d j k (ne, a, b, l)
 
 pub disjoint-of : (ns : List Node) → Apart ns → Disjoint ns
 disjoint-of ns a j k h = a j k (h .0) (h .1) (h .2) (h .3)
+
+-- the pool of a planner is in order under its roots
+pub ordered-of : {K E B M : Type 0} (p : Planner K E B M) → Ordered (state-of p .memory) (names (p .roots))
+ordered-of p =
+    record {
+        nodes-long = p .«nodes_long»; words-long = p .«words_long»; counts = p .counts; heights = p .heights; low = p .low; eight = p .eight;
+        within = p .within; apart = apart-of (p .pool .nodes .now) (p .apart); slotless = p .slotless;
+        freed = freed-of (p .pool .nodes .now) (p .eight) (p .freed); cleared = p .cleared
+    }
+
+-- what a planner's ghost fields say, in their order
+abbrev pub Ghosts : Memory → List (Option ℕ) → Type 0
+Ghosts m rs =
+    (length rs ≡ 32) × ((length (m .nodes) ≡ 256) × ((length (m .words) ≡ 8192) × (Counts (m .nodes) (names rs) × (Heights (m .nodes) × (Low (m .nodes) × (Eight (m .nodes)
+    × (Within (m .nodes) (m .words) × (Disjoint (m .nodes) × (Slotless (m .nodes) × (Vacant (m .nodes) × (Cleared (m .nodes) (m .words) × Unit {0})))))))))))
+
+pub ghosts-of : (m : Memory) (rs : List (Option ℕ)) → length rs ≡ 32 → Ordered m (names rs) → Ghosts m rs
+ghosts-of m rs long o =
+    (long, (o .nodes-long, (o .words-long, (o .counts, (o .heights, (o .low, (o .eight, (o .within, (disjoint-of (m .nodes) (o .apart), (o .slotless, (vacant-of (m .nodes) (o .freed), (o .cleared, tt))))))))))))

@@ -1,8 +1,10 @@
 pub mod Ways
-pub mod Roots
+pub mod Holders
 pub mod Holding
 pub mod Parsing
 pub mod Steps
-pub mod New
+pub mod Beginning
 pub mod Histories
 pub mod Invariant
+pub mod Outcomes
+pub mod Rooted

@@ -39,7 +39,7 @@ use Rattle.pool.proofs.Spared.{retained-change}
 use Rattle.pool.proofs.Releasing.{release-change}
 use Rattle.pool.proofs.Building.{Built, Outcome, built-is}
 use Rattle.planner.proofs.Ways.{bool-both, option-both}
-use Rattle.planner.proofs.Roots.{times-here, names-at, names-filled, names-emptied, ordered-like, held-other}
+use Rattle.planner.proofs.Holders.{times-here, names-at, names-filled, names-emptied, ordered-like, held-other}
 use Rattle.planner.proofs.Holding.{held-kept, kept-whole, held-back}
 use Rattle.planner.proofs.Parsing.{rows-parsed}
 

@@ -75,7 +75,7 @@ impl<K: RowKinds, E: Encoding, B: Bank, M: Matcher> Planner<'_, K, E, B, M> {
         if root as usize >= ROOTS {
             return Err(Refusal::RootRange);
         }
-        if let Some(_) = self.roots[root as usize] {
+        if self.root(root).is_some() {
             return Err(Refusal::RootTaken);
         }
         if !known || !all_parse(&self.kinds, kind, len, rows) {

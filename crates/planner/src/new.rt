@@ -1,6 +1,7 @@
 ghost use mathlib.Core.Path.{_≡_};
 ghost use mathlib.Core.List.{[]};
-ghost use Rattle.planner.specs.Called.{new-state};
+ghost use Prim.Native.Nat.{_<_};
+ghost use Rattle.planner.specs.Called.{new-state, root-at};
 ghost use Rattle.planner.specs.Law.{Reached};
 ghost use Rattle.planner.specs.Seen.{state-of};
 use crate::planner::Planner;
@@ -24,5 +25,13 @@ impl<'a, K: RowKinds, E: Encoding, B: Bank, M: Matcher> Planner<'a, K, E, B, M> 
     {
         let pool = Pool::new(nodes, words);
         Planner { pool, roots: [None; ROOTS], kinds, encodings, bank, matcher }
+    }
+
+    // The node under a root.
+    pub(crate) fn root(&self, root: u8) -> Option<u8>
+        requires { ⌜ root < 32 ⌝ }
+        ensures { λ r. ⌜ root-at (state-of (now (self .entry))) root ≡ r ⌝ }
+    {
+        self.roots[root as usize]
     }
 }

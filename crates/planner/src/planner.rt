@@ -19,6 +19,7 @@ pub struct Planner<'a, K, E, B, M> {
     pub encodings: E,
     pub bank: B,
     pub matcher: M,
+    ghost roots_long: { length roots ≡ 32 },
     ghost nodes_long: { length (pool .nodes .now) ≡ 256 },
     ghost words_long: { length (pool .words .now) ≡ 8192 },
     ghost counts: { Counts (pool .nodes .now) (names roots) },

@@ -31,7 +31,7 @@ impl<K: RowKinds, E: Encoding, B: Bank, M: Matcher> Planner<'_, K, E, B, M> {
         if root as usize >= ROOTS {
             return Err(Refusal::RootRange);
         }
-        let Some(n) = self.roots[root as usize] else {
+        let Some(n) = self.root(root) else {
             return Err(Refusal::RootEmpty);
         };
         let node = self.pool.nodes[n as usize];

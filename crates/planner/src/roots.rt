@@ -24,10 +24,10 @@ impl<K: RowKinds, E: Encoding, B: Bank, M: Matcher> Planner<'_, K, E, B, M> {
         if to as usize >= ROOTS || from as usize >= ROOTS {
             return Err(Refusal::RootRange);
         }
-        let Some(node) = self.roots[from as usize] else {
+        let Some(node) = self.root(from) else {
             return Err(Refusal::RootEmpty);
         };
-        if let Some(_) = self.roots[to as usize] {
+        if self.root(to).is_some() {
             return Err(Refusal::RootTaken);
         }
         self.pool.retain(node);
@@ -44,7 +44,7 @@ impl<K: RowKinds, E: Encoding, B: Bank, M: Matcher> Planner<'_, K, E, B, M> {
         if root as usize >= ROOTS {
             return Err(Refusal::RootRange);
         }
-        let Some(node) = self.roots[root as usize] else {
+        let Some(node) = self.root(root) else {
             return Err(Refusal::RootEmpty);
         };
         self.roots[root as usize] = None;
