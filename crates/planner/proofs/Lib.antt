@@ -8,3 +8,6 @@ pub mod Histories
 pub mod Invariant
 pub mod Outcomes
 pub mod Rooted
+pub mod Counting
+pub mod Filling
+pub mod Making

@@ -8,7 +8,7 @@ use native.Mathlib.Numerals.{add-one}
 use native.Mathlib.Omega.{arith}
 use lib.ListN.{length, getD, take, drop}
 use Rattle.std.proofs.shelf.Lists.{drop-drop}
-use Rattle.std.specs.Options.{isSome}
+use Rattle.std.specs.Options.{isSome, valueOr}
 use Rattle.std.specs.declared.option.Option.{Option}
 use Rattle.std.specs.declared.option.Option.the-variants.{Some, None}
 use Rattle.rows.specs.declared.row.Row.{Row}
@@ -96,3 +96,27 @@ parsed-at kd (suc n) bs rs (suc k) d h e =
 -- the bytes of row k lie within those of n rows
 pub row-within : (w n k : ℕ) → k < n → k * w + w ≤ n * w
 row-within w n k h = let e = row-place w k in let m : (k + 1) * w ≤ n * w = mul-le-mul-right w (omega arith) in omega arith
+
+-- the bytes of row k, as a part of all bytes gives them
+pub row-bytes : (kd : Kind) (k w : ℕ) (bs : List ℕ) → w ≡ kd .width → kd .parsed (take (k * w + w - k * w) (drop (k * w) bs)) ≡ kd .parsed (take (kd .width) (drop (k * kd .width) bs))
+row-bytes kd k w bs e =
+    let d : k * w + w - k * w ≡ w = omega arith in
+    ap (λ (x : ℕ). kd .parsed (take x (drop (k * w) bs))) d ∙ ap (λ (x : ℕ). kd .parsed (take x (drop (k * x) bs))) e
+
+-- what parsed has a row at each place
+pub parsed-some : (kd : Kind) (n : ℕ) (bs : List ℕ) (k : ℕ) (d : Row) → k < n → isSome (parsed-rows kd n bs) ≡ true → kd .parsed (take (kd .width) (drop (k * kd .width) bs)) ≡ Some (getD (valueOr (parsed-rows kd n bs) []) k d)
+parsed-some kd n bs k d h e = by (parsed-rows kd n bs) refl e
+  where
+    by : (o : Option (List Row)) → parsed-rows kd n bs ≡ o → isSome o ≡ true → kd .parsed (take (kd .width) (drop (k * kd .width) bs)) ≡ Some (getD (valueOr o []) k d)
+    by None is t = let z : _≡_ {A = ℕ} 0 1 = cc in absurd (omega arith)
+    by (Some rs) is t = parsed-at kd n bs rs k d h is
+
+pub parsed-value : (kd : Kind) (n : ℕ) (bs : List ℕ) → isSome (parsed-rows kd n bs) ≡ true → parsed-rows kd n bs ≡ Some (valueOr (parsed-rows kd n bs) [])
+parsed-value kd n bs e = by (parsed-rows kd n bs) e
+  where
+    by : (o : Option (List Row)) → isSome o ≡ true → o ≡ Some (valueOr o [])
+    by None t = let z : _≡_ {A = ℕ} 0 1 = cc in absurd (omega arith)
+    by (Some rs) t = refl
+
+pub parsed-long : (kd : Kind) → LawfulKind kd → (n : ℕ) (bs : List ℕ) → isSome (parsed-rows kd n bs) ≡ true → length (valueOr (parsed-rows kd n bs) []) ≡ n
+parsed-long kd lawful n bs e = rows-parsed kd lawful n bs (valueOr (parsed-rows kd n bs) []) (parsed-value kd n bs e) .long

@@ -5,7 +5,7 @@ ghost use lib.ListN.{length};
 ghost use Rattle.std.specs.Options.{isSome};
 ghost use Rattle.pool.specs.Building.{built};
 ghost use Rattle.pool.specs.Seen.{memory-of};
-ghost use Rattle.planner.specs.Called.{in-range, parsed-rows};
+ghost use Rattle.planner.specs.Called.{in-range, sized, parsed-rows, rows-made};
 ghost use Rattle.planner.specs.Calls.{make};
 ghost use Rattle.planner.specs.Contract.{outcome, rows-parsed, Does};
 ghost use Rattle.planner.specs.Seen.{state-of};
@@ -29,6 +29,17 @@ fn in_range<K: RowKinds>(kinds: &K, kind: u8, len: u16) -> bool
     kinds.has(kind) && len <= MAX_ROWS
 }
 
+// Whether there are as many bytes as the rows need; not asked where kind or length is out of range.
+fn is_sized<K: RowKinds>(kinds: &K, kind: u8, len: u16, rows: &[u8]) -> bool
+    ensures { λ r. ⌜ r ≡ sized (K·RowKinds .kinds (now (kinds .entry))) kind len (now (rows .entry)) ⌝ }
+{
+    if in_range(kinds, kind, len) {
+        rows.len() == len as usize * kinds.width(kind) as usize
+    } else {
+        true
+    }
+}
+
 // Whether each of the rows is one that the kind takes.
 fn all_parse<K: RowKinds>(kinds: &K, kind: u8, len: u16, rows: &[u8]) -> bool
     requires { ⌜ length (now rows) ≡ len * K·RowKinds .kinds (now kinds) .kind kind .width ⌝ }
@@ -41,6 +52,18 @@ fn all_parse<K: RowKinds>(kinds: &K, kind: u8, len: u16, rows: &[u8]) -> bool
         }
     }
     true
+}
+
+// Whether kind and length are in range, and each of the rows is one that the kind takes.
+fn are_rows<K: RowKinds>(kinds: &K, kind: u8, len: u16, rows: &[u8]) -> bool
+    requires { ⌜ sized (K·RowKinds .kinds (now kinds)) kind len (now rows) ≡ true ⌝ }
+    ensures { λ r. ⌜ r ≡ isSome (rows-made (K·RowKinds .kinds (now (kinds .entry))) kind len (now (rows .entry))) ⌝ }
+{
+    if in_range(kinds, kind, len) {
+        all_parse(kinds, kind, len, rows)
+    } else {
+        false
+    }
 }
 
 // A Flat array of the rows that the bytes stand for.
@@ -68,8 +91,7 @@ impl<K: RowKinds, E: Encoding, B: Bank, M: Matcher> Planner<'_, K, E, B, M> {
         ensures kinds { λ _. ⌜ now (self .exit) .kinds ≡ now (self .entry) .kinds ⌝ }
         ensures encodings { λ _. ⌜ now (self .exit) .encodings ≡ now (self .entry) .encodings ⌝ }
     {
-        let known = in_range(&self.kinds, kind, len);
-        if known && rows.len() != len as usize * self.kinds.width(kind) as usize {
+        if !is_sized(&self.kinds, kind, len, rows) {
             return Err(Refusal::Line);
         }
         if root as usize >= ROOTS {
@@ -78,7 +100,7 @@ impl<K: RowKinds, E: Encoding, B: Bank, M: Matcher> Planner<'_, K, E, B, M> {
         if self.root(root).is_some() {
             return Err(Refusal::RootTaken);
         }
-        if !known || !all_parse(&self.kinds, kind, len, rows) {
+        if !are_rows(&self.kinds, kind, len, rows) {
             return Err(Refusal::Field);
         }
         let node = build(&mut self.pool, &self.kinds, kind, len, rows)?;

@@ -1,8 +1,10 @@
 pub mod Building
+pub mod Copying
 pub mod Counted
 pub mod Found
 pub mod Placing
 pub mod Reached
 pub mod Releasing
+pub mod Slotting
 pub mod Spared
 pub mod Used

@@ -4,3 +4,4 @@ pub mod seen;
 pub mod sharing;
 pub mod finding;
 pub mod builder;
+pub mod slots;
