@@ -11,3 +11,4 @@ pub mod Rooted
 pub mod Counting
 pub mod Filling
 pub mod Making
+pub mod Playing

@@ -5,3 +5,4 @@ pub mod make;
 pub mod roots;
 pub mod read;
 pub mod listener;
+pub mod replay;

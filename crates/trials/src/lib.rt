@@ -1,4 +1,6 @@
 pub mod fill;
 #[cfg(test)]
+mod pools;
+#[cfg(test)]
 mod tests;
 pub mod wide;

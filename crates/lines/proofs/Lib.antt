@@ -1,0 +1,5 @@
+pub mod Decoding
+pub mod Calling
+pub mod Alone
+pub mod Spelling
+pub mod Keeping

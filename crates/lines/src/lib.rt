@@ -1,0 +1,4 @@
+pub mod buffer;
+pub mod parse;
+pub mod text;
+pub mod write;
