@@ -3,3 +3,4 @@ pub mod Calling
 pub mod Alone
 pub mod Spelling
 pub mod Keeping
+pub mod Responding

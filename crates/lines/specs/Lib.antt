@@ -2,3 +2,4 @@ pub mod Text
 pub mod Parse
 pub mod Written
 pub mod Append
+pub mod Respond

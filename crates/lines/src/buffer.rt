@@ -46,21 +46,3 @@ impl LineBuffer {
         self.bytes.clear();
     }
 }
-
-#[cfg(test)]
-mod tests {
-    use super::*;
-    use std::test::*;
-
-    #[test]
-    fn cut(rt: LibcRuntime) -> Result<(), Fail> {
-        let mut line = LineBuffer::new(rt.alloc(), 4)?;
-        for byte in b"040500" {
-            line.push(*byte);
-        }
-        check(&*line.line() == b"0405")?;
-        line.clear();
-        line.push(b'0');
-        check(&*line.line() == b"0")
-    }
-}

@@ -1,4 +1,5 @@
 pub mod buffer;
 pub mod parse;
+pub mod respond;
 pub mod text;
 pub mod write;

@@ -105,20 +105,3 @@ pub fn read_line<'a, K: RowKinds>(kinds: &K, line: &'a mut [u8]) -> Option<Call<
     let n = decode(line)?;
     parse(kinds, &line[0..n])
 }
-
-#[cfg(test)]
-mod tests {
-    use super::*;
-    use std::test::*;
-
-    #[test]
-    fn calls() -> Result<(), Fail> {
-        check(matches!(share_call(&[5, 7]), Some(Call::Share { to: 5, from: 7 })))?;
-        check(matches!(share_call(&[5]), None))?;
-        check(matches!(share_call(&[5, 7, 0]), None))?;
-        check(matches!(release_call(&[31]), Some(Call::Release { root: 31 })))?;
-        check(matches!(release_call(&[]), None))?;
-        check(matches!(read_call(&[0]), Some(Call::Read { root: 0 })))?;
-        check(matches!(read_call(&[0, 0]), None))
-    }
-}

@@ -65,39 +65,3 @@ pub fn push_bytes(out: &mut Vec<u8>, bytes: &[u8]) -> Result<(), AllocError>
     }
     Ok(())
 }
-
-#[cfg(test)]
-mod tests {
-    use super::*;
-    use std::test::*;
-
-    fn two_bytes(mut text: [u8; 4]) -> Option<[u8; 2]> {
-        decode(&mut text)?;
-        Some([text[0], text[1]])
-    }
-
-    #[test]
-    fn digits() -> Result<(), Fail> {
-        let table = [
-            (*b"0904", Some([0x09, 0x04])),
-            (*b"AF5C", Some([0xAF, 0x5C])),
-            (*b"af5c", None),
-            (*b"0G00", None),
-            (*b"00 1", None),
-            (*b"/:@G", None),
-            (*b"090\r", None),
-        ];
-        for (text, expected) in table {
-            check_eq(two_bytes(text), expected)?;
-        }
-        check_eq(decode(&mut [b'0', b'9', b'0']), None)?;
-        check_eq(decode(&mut []), Some(0))
-    }
-
-    #[test]
-    fn spelled(rt: LibcRuntime) -> Result<(), Fail> {
-        let mut out = Vec::new(rt.alloc());
-        push_bytes(&mut out, &[0x00, 0x9A, 0xF5])?;
-        check(out.as_slice() == b"009AF5")
-    }
-}

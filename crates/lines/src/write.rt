@@ -112,39 +112,3 @@ pub fn write_answer<K: RowKinds>(
         Answer::Refused(refusal) => push_bytes(out, &[number(refusal), layer(refusal)]),
     }
 }
-
-#[cfg(test)]
-mod tests {
-    use super::*;
-    use std::test::*;
-
-    #[test]
-    fn refusals() -> Result<(), Fail> {
-        let table = [
-            (Refusal::Line, 1, 0),
-            (Refusal::RootRange, 2, 0),
-            (Refusal::RootEmpty, 3, 0),
-            (Refusal::RootTaken, 4, 0),
-            (Refusal::Field, 5, 0),
-            (Refusal::Pool(PoolFault::Height), 7, 1),
-            (Refusal::Pool(PoolFault::Nodes), 8, 1),
-            (Refusal::Pool(PoolFault::Words), 9, 1),
-            (Refusal::NotFlat, 15, 0),
-        ];
-        for (refusal, n, l) in table {
-            check_eq(number(refusal), n)?;
-            check_eq(layer(refusal), l)?;
-        }
-        Ok(())
-    }
-
-    #[test]
-    fn refused(rt: LibcRuntime) -> Result<(), Fail> {
-        let mut out = Vec::new(rt.alloc());
-        push_bytes(
-            &mut out,
-            &[number(Refusal::NotFlat), layer(Refusal::NotFlat)],
-        )?;
-        check(out.as_slice() == b"0F00")
-    }
-}

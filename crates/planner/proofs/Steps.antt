@@ -315,6 +315,8 @@ module _ (ks : Kinds) (lawful : LawfulKinds ks) (es : Encodings) (means : Lawful
     read-done k held flat =
         let used : 0 < countAt (m .nodes) k = held-used (m .nodes) hs k (good .ordered .counts) (root-held ks es s good root k held) in
         let w = good .whole k used in
+        let fit : flat-fields ks (fields-of (node-at m k)) ≡ true = sym (means .flat-fits (fields-of (node-at m k)) flat) ∙ w .fields-fit in
+        let few : node-at m k .len ≤ 1024 = leb-true (node-at m k .len) 1024 (and-parts _ _ (and-parts _ _ fit .1) .0) in
         let long : length (run-of m k) ≡ runAt (m .nodes) k
             = omega (arith, length-take (runAt (m .nodes) k) (drop (startAt (m .nodes) k) (m .words)), length-drop (startAt (m .nodes) k) (m .words), good .ordered .within k) in
         record {
@@ -326,6 +328,7 @@ module _ (ks : Kinds) (lawful : LawfulKinds ks) (es : Encodings) (means : Lawful
                 array = k;
                 under = held;
                 kind-is = refl; len-is = refl; place-is = refl; words-are = refl;
+                few = few;
                 words-long = long ∙ w .flat-run flat;
                 rows-are = ap (λ (o : Option ℕ). rows-in o) held ∙ flat-rows ks es m k flat;
                 tidy = w .flat-tidy flat

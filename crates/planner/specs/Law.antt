@@ -2,7 +2,7 @@
 use mathlib.Core.Path.{_≡_}
 use mathlib.Core.Bool.{Bool, true, false}
 use mathlib.Core.List.{List, [], _∷_}
-use Prim.Native.Nat.{ℕ, _<_}
+use Prim.Native.Nat.{ℕ, _<_, _≤_}
 use lib.ListN.{length, getD, set, replicate}
 use lib.Dec.{eqb}
 use Rattle.std.specs.declared.option.Option.{Option}
@@ -131,6 +131,7 @@ pub record Hands (ks : Kinds) (es : Encodings) (s : State) (r kind n place : ℕ
   pub kind-is : node-at (s .memory) array .kind ≡ kind
   pub len-is : node-at (s .memory) array .len ≡ n
   pub place-is : startAt (s .memory .nodes) array ≡ place
+  pub few : n ≤ 1024
   pub words-are : run-of (s .memory) array ≡ words
   pub words-long : length words ≡ ks .kind kind .words n
   pub rows-are : rows-under ks es s r ≡ Some (kinds.rows (ks .kind kind) n words)

@@ -1,3 +1,4 @@
+pub mod answer;
 pub mod call;
 pub mod planner;
 pub mod new;

@@ -1,14 +1,13 @@
 ghost use mathlib.Core.Path.{_≡_};
 ghost use mathlib.Core.List.{List, [], _∷_, _++_, map};
 ghost use Rattle.planner.specs.Called.{called};
-ghost use Rattle.planner.specs.Calls.{told, said};
-ghost use Rattle.planner.specs.Contract.{outcome as outcome-said, read-outcome, played, answers};
+ghost use Rattle.planner.specs.Calls.{told};
+ghost use Rattle.planner.specs.Contract.{played, answers};
 ghost use Rattle.planner.specs.Law.{Law};
 ghost use Rattle.planner.specs.Seen.{state-of};
-use crate::call::Answer;
+use crate::answer::answer;
+use crate::answer::read_answer;
 use crate::call::Call;
-use crate::call::Reading;
-use crate::call::Refusal;
 use crate::listener::Listener;
 use crate::planner::Planner;
 use encodings::encoding::Encoding;
@@ -18,26 +17,6 @@ use pool::node::Node;
 use pool::pool::NODES;
 use pool::pool::WORDS;
 use rows::kinds::RowKinds;
-
-// The answer to a call that hands nothing out.
-fn answer<'a>(result: Result<(), Refusal>) -> Answer<'a>
-    ensures { λ r. ⌜ said r ≡ outcome-said result ⌝ }
-{
-    match result {
-        Ok(()) => Answer::Done,
-        Err(refusal) => Answer::Refused(refusal),
-    }
-}
-
-// The answer to a reading.
-fn read_answer<'a>(result: Result<Reading<'a>, Refusal>) -> Answer<'a>
-    ensures { λ r. ⌜ said r ≡ read-outcome (result .entry) ⌝ }
-{
-    match result {
-        Ok(reading) => Answer::Rows(reading),
-        Err(refusal) => Answer::Refused(refusal),
-    }
-}
 
 impl<K: RowKinds, E: Encoding, B: Bank, M: Matcher> Planner<'_, K, E, B, M> {
     // One call, and its answer handed to a listener.
