@@ -12,3 +12,4 @@ pub mod Counting
 pub mod Filling
 pub mod Making
 pub mod Playing
+pub mod Tallying

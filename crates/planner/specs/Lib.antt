@@ -4,3 +4,4 @@ pub mod Called
 pub mod Law
 pub mod Seen
 pub mod Contract
+pub mod Tally

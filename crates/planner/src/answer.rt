@@ -1,5 +1,6 @@
 ghost use mathlib.Core.Path.{_≡_};
 ghost use Rattle.planner.specs.Calls.{said};
+ghost use Rattle.planner.specs.Law.{accepted};
 ghost use Rattle.planner.specs.Contract.{outcome, read-outcome};
 use crate::call::Answer;
 use crate::call::Reading;
@@ -22,5 +23,16 @@ pub fn read_answer<'a>(result: Result<Reading<'a>, Refusal>) -> Answer<'a>
     match result {
         Ok(reading) => Answer::Rows(reading),
         Err(refusal) => Answer::Refused(refusal),
+    }
+}
+
+// Whether a call was accepted.
+pub fn is_accepted(answer: Answer) -> bool
+    ensures { λ r. ⌜ r ≡ accepted (said (answer .entry)) ⌝ }
+{
+    match answer {
+        Answer::Done => true,
+        Answer::Rows(_) => true,
+        Answer::Refused(_) => false,
     }
 }

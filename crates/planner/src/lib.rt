@@ -6,4 +6,5 @@ pub mod make;
 pub mod roots;
 pub mod read;
 pub mod listener;
+pub mod tally;
 pub mod replay;

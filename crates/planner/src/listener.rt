@@ -4,10 +4,11 @@ ghost use denote.Ref.{now};
 ghost use Rattle.planner.specs.Calls.{Said, said};
 use crate::call::Answer;
 
-// Hears the answers to a list of calls, one by one.
+// Hears the answers to a list of calls, one by one. Since an answer may lend words of the pool, a listener keeps what
+// it likes of it: `hears` says which lists of answers it may have heard.
 pub trait Listener {
-    ghost heard: { Self → List Said };
+    ghost hears: { Self → List Said → Type 0 };
 
     fn hear(&mut self, answer: Answer)
-        ensures { λ _. ⌜ heard (now (self .exit)) ≡ heard (now (self .entry)) ++ said (answer .entry) ∷ [] ⌝ };
+        ensures { λ _. ⌜ ((before : List Said) → hears (now (self .entry)) before → hears (now (self .exit)) (before ++ said (answer .entry) ∷ [])) ⌝ };
 }

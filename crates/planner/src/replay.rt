@@ -1,7 +1,7 @@
 ghost use mathlib.Core.Path.{_≡_};
 ghost use mathlib.Core.List.{List, [], _∷_, _++_, map};
 ghost use Rattle.planner.specs.Called.{called};
-ghost use Rattle.planner.specs.Calls.{told};
+ghost use Rattle.planner.specs.Calls.{Said, told};
 ghost use Rattle.planner.specs.Contract.{played, answers};
 ghost use Rattle.planner.specs.Law.{Law};
 ghost use Rattle.planner.specs.Seen.{state-of};
@@ -21,7 +21,7 @@ use rows::kinds::RowKinds;
 impl<K: RowKinds, E: Encoding, B: Bank, M: Matcher> Planner<'_, K, E, B, M> {
     // One call, and its answer handed to a listener.
     pub fn serve<L: Listener>(&mut self, call: Call, listener: &mut L)
-        ensures heard { λ _. ⌜ L·Listener .heard (now (listener .exit)) ≡ L·Listener .heard (now (listener .entry)) ++ called (K·RowKinds .kinds (now (self .entry) .kinds)) (state-of (now (self .entry))) (told (call .entry)) .0 ∷ [] ⌝ }
+        ensures heard { λ _. ⌜ ((before : List Said) → L·Listener .hears (now (listener .entry)) before → L·Listener .hears (now (listener .exit)) (before ++ called (K·RowKinds .kinds (now (self .entry) .kinds)) (state-of (now (self .entry))) (told (call .entry)) .0 ∷ [])) ⌝ }
         ensures state { λ _. ⌜ state-of (now (self .exit)) ≡ called (K·RowKinds .kinds (now (self .entry) .kinds)) (state-of (now (self .entry))) (told (call .entry)) .1 ⌝ }
         ensures kinds { λ _. ⌜ now (self .exit) .kinds ≡ now (self .entry) .kinds ⌝ }
         ensures encodings { λ _. ⌜ now (self .exit) .encodings ≡ now (self .entry) .encodings ⌝ }
@@ -49,7 +49,7 @@ impl<K: RowKinds, E: Encoding, B: Bank, M: Matcher> Planner<'_, K, E, B, M> {
 
 // Plays a list of calls on a new planner, and hands each answer to a listener.
 pub fn replay<K: RowKinds + Drop, E: Encoding + Drop, B: Bank + Drop, M: Matcher + Drop, L: Listener>(nodes: &mut [Node; NODES], words: &mut [u32; WORDS], kinds: K, encodings: E, bank: B, matcher: M, calls: &[Call], listener: &mut L)
-    ensures heard { λ _. ⌜ L·Listener .heard (now (listener .exit)) ≡ L·Listener .heard (now (listener .entry)) ++ answers (played (K·RowKinds .kinds kinds) [] (map told (now (calls .entry)))) ⌝ }
+    ensures heard { λ _. ⌜ ((before : List Said) → L·Listener .hears (now (listener .entry)) before → L·Listener .hears (now (listener .exit)) (before ++ answers (played (K·RowKinds .kinds kinds) [] (map told (now (calls .entry)))))) ⌝ }
     ensures law { λ _. ⌜ Law (K·RowKinds .kinds kinds) (E·Encoding .means encodings (K·RowKinds .kinds kinds)) (played (K·RowKinds .kinds kinds) [] (map told (now (calls .entry)))) ⌝ }
 {
     let mut planner = Planner::new(nodes, words, kinds, encodings, bank, matcher);
