@@ -8,9 +8,13 @@ use encodings::matcher::Matcher;
 use optimizer::Bank;
 use optimizer::EmptyBank;
 use optimizer::EmptyBankBank;
+use planner::call::Call;
 use planner::call::Refusal;
 use planner::call::RefusalDebug;
 use planner::planner::Planner;
+use planner::replay::replay;
+use planner::tally::Tally;
+use planner::tally::TallyListener;
 use pool::node::Node;
 use pool::pool::NODES;
 use pool::pool::WORDS;
@@ -120,6 +124,35 @@ fn lay(rt: &LibcRuntime) -> Result<(), AnyError> {
     tell_usage(rt, &planner)
 }
 
+// Plays the same calls on a new planner, and tells how they were answered.
+fn play_again(rt: &LibcRuntime) -> Result<(), AnyError> {
+    let heap = rt.alloc();
+    let mut nodes = [Node::FREE; NODES];
+    let mut words = [0; WORDS];
+    let thickness = number_bytes(heap, &THICKNESS)?;
+    let flaws = mark_bytes(heap, &FLAWS)?;
+    let calls = [
+        Call::Make { root: 0, kind: NUMBER, len: 8, rows: thickness.as_slice() },
+        Call::Make { root: 1, kind: MARK, len: 8, rows: flaws.as_slice() },
+        Call::Share { to: 2, from: 0 },
+        Call::Share { to: 3, from: 1 },
+        Call::Release { root: 0 },
+        Call::Release { root: 1 },
+        Call::Release { root: 1 },
+        Call::Read { root: 2 },
+        Call::Read { root: 3 },
+        Call::Release { root: 2 },
+        Call::Release { root: 3 },
+    ];
+    let mut tally = Tally { accepted: 0, refused: 0 };
+    replay(&mut nodes, &mut words, BaseKinds, Flat, EmptyBank, AnyCanonical, &calls, &mut tally);
+    let accepted = tally.accepted;
+    let refused = tally.refused;
+    println!(rt, "the same calls on a new planner: {accepted} accepted, {refused} refused")?;
+    Ok(())
+}
+
 fn main(rt: LibcRuntime) -> Result<(), AnyError> {
-    rt.report(lay(&rt))
+    rt.report(lay(&rt))?;
+    rt.report(play_again(&rt))
 }

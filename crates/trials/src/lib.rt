@@ -1,3 +1,5 @@
+#[cfg(test)]
+mod calls;
 pub mod fill;
 #[cfg(test)]
 mod pools;

@@ -24,10 +24,11 @@ const OFF: Row = Row { value: 0 };
 #[test]
 fn marks_lie_lowest_bit_first() -> Result<(), Fail> {
     let mut run = [0];
-    fill(&BaseKinds, 2, &mut run, &[ON, ON, ON, OFF, ON]);
-    check_eq(run[0], 0b10111)?;
-    check_eq(BaseKinds.read(2, &run, 5, 2), ON)?;
-    check_eq(BaseKinds.read(2, &run, 5, 3), OFF)
+    // the worked example of a validity bitmap in the Apache Arrow Columnar Format
+    fill(&BaseKinds, 2, &mut run, &[ON, ON, OFF, ON, OFF, ON]);
+    check_eq(run[0], 0b00101011)?;
+    check_eq(BaseKinds.read(2, &run, 6, 2), OFF)?;
+    check_eq(BaseKinds.read(2, &run, 6, 3), ON)
 }
 
 #[test]
