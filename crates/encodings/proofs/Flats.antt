@@ -18,6 +18,7 @@ unfolding rows-of
 flat-rows ks es m k e =
     let f : ℕ = heightAt (m .nodes) k in
     ap (λ (b : Bool). elim b [
-          true ↦ Some (rows (ks .kind (node-at m k .kind)) (node-at m k .len) (run-of m k))
-        | false ↦ elim (gathered (rows-at ks es f m) (slots-of (node-at m k))) [ None ↦ None | Some cs ↦ es .rows (fields-of (node-at m k)) cs ] ])
-      (eq-eqb (node-at m k .encoding) 1 e)
+      | true ↦ Some (rows (ks .kind (node-at m k .kind)) (node-at m k .len) (run-of m k))
+      | false ↦ elim (gathered (rows-at ks es f m) (slots-of (node-at m k))) [ None ↦ None | Some cs ↦ es .rows (fields-of (node-at m k)) cs ]
+    ])
+    (eq-eqb (node-at m k .encoding) 1 e)

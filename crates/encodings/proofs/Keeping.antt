@@ -43,15 +43,16 @@ gathered-same {A = A} f g (Some x ∷ ss) e =
     let rest : gathered f ss ≡ gathered g ss = gathered-same f g ss (λ c h. e c (omega arith)) in
     let first : f x ≡ g x = e x (times-first x x (names ss) refl) in
     let join : Option A → Option (List A) → Option (List A)
-        = λ o rs. elim o [ None ↦ None | Some r ↦ elim rs [ None ↦ None | Some l ↦ Some (r ∷ l) ] ] in
+    = λ o rs. elim o [ None ↦ None | Some r ↦ elim rs [ None ↦ None | Some l ↦ Some (r ∷ l) ] ] in
     ap (λ (o : Option A). join o (gathered f ss)) first ∙ ap (λ (o : Option (List A)). join (g x) o) rest
 
 -- what a node shows, from its children's rows and its run
 abbrev shown : Kinds → Encodings → Node → List ℕ → Option (List (List Row)) → Option (List Row)
 shown ks es nd run cs =
     elim (eqb (nd .encoding) 1) [
-      true ↦ Some (rows (ks .kind (nd .kind)) (nd .len) run)
-    | false ↦ elim cs [ None ↦ None | Some rs ↦ es .rows (fields-of nd) rs ] ]
+      | true ↦ Some (rows (ks .kind (nd .kind)) (nd .len) run)
+      | false ↦ elim cs [ None ↦ None | Some rs ↦ es .rows (fields-of nd) rs ]
+    ]
 
 module _ (ks : Kinds) (es : Encodings) (m q : Memory) where
   -- what the slots of k name is as it was, too
@@ -65,7 +66,7 @@ module _ (ks : Kinds) (es : Encodings) (m q : Memory) where
       let same = kept k here in
       let cq : List (Option ℕ) → Option (List (List Row)) = λ ss. gathered (rows-at ks es f q) ss in
       let children : cq (slots-of nd) ≡ gathered (rows-at ks es f m) (slots-of nd)
-          = gathered-same (rows-at ks es f q) (rows-at ks es f m) (slots-of nd) (λ c h. rows-at-kept f c (child-kept k c kept h)) in
+      = gathered-same (rows-at ks es f q) (rows-at ks es f m) (slots-of nd) (λ c h. rows-at-kept f c (child-kept k c kept h)) in
       ap (λ (x : Node). shown ks es x (run-of q k) (cq (slots-of x))) (same .same-node)
       ∙ ap (λ (run : List ℕ). shown ks es nd run (cq (slots-of nd))) (same .same-run)
       ∙ ap (λ (o : Option (List (List Row))). shown ks es nd (run-of m k) o) children
@@ -83,15 +84,15 @@ module _ (ks : Kinds) (es : Encodings) (m q : Memory) where
       let to : node-at q k ≡ with-count nd (countAt (q .nodes) k) = same .same-node in
       let from : with-count nd (countAt (q .nodes) k) ≡ node-at q k = sym to in
       let shapes : shapes-of m (slots-of nd) ≡ shapes-of q (slots-of nd)
-          = gathered-same (λ c. Some (shape-of (node-at m c))) (λ c. Some (shape-of (node-at q c))) (slots-of nd)
-              (λ c h. sym (ap (λ (x : Node). Some (shape-of x)) (child-kept k c kept h c here .same-node))) in
+      = gathered-same (λ c. Some (shape-of (node-at m c))) (λ c. Some (shape-of (node-at q c))) (slots-of nd)
+      (λ c h. sym (ap (λ (x : Node). Some (shape-of x)) (child-kept k c kept h c here .same-node))) in
       record {
-          known = subst (λ (x : Node). es .has (x .encoding) ≡ true) from (w .known);
-          fields-fit = subst (λ (x : Node). es .fields-fit (fields-of x) ≡ true) from (w .fields-fit);
-          slots-fit = subst (λ (x : Node). SlotsFit es (fields-of x) (shapes-of q (slots-of x))) from
-              (subst (λ (o : Option (List Shape)). SlotsFit es (fields-of nd) o) shapes (w .slots-fit));
-          no-more = subst (λ (x : Node). names (drop (x .arity) (x .slots)) ≡ []) from (w .no-more);
-          flat-run = subst (λ (x : Node). x .encoding ≡ 1 → x .run ≡ ks .kind (x .kind) .words (x .len)) from (w .flat-run);
-          flat-tidy = subst (λ (run : List ℕ). node-at q k .encoding ≡ 1 → ks .kind (node-at q k .kind) .tidy (node-at q k .len) run ≡ true) (sym (same .same-run))
-              (subst (λ (x : Node). x .encoding ≡ 1 → ks .kind (x .kind) .tidy (x .len) (run-of m k) ≡ true) from (w .flat-tidy))
+        known = subst (λ (x : Node). es .has (x .encoding) ≡ true) from (w .known);
+        fields-fit = subst (λ (x : Node). es .fields-fit (fields-of x) ≡ true) from (w .fields-fit);
+        slots-fit = subst (λ (x : Node). SlotsFit es (fields-of x) (shapes-of q (slots-of x))) from
+            (subst (λ (o : Option (List Shape)). SlotsFit es (fields-of nd) o) shapes (w .slots-fit));
+        no-more = subst (λ (x : Node). names (drop (x .arity) (x .slots)) ≡ []) from (w .no-more);
+        flat-run = subst (λ (x : Node). x .encoding ≡ 1 → x .run ≡ ks .kind (x .kind) .words (x .len)) from (w .flat-run);
+        flat-tidy = subst (λ (run : List ℕ). node-at q k .encoding ≡ 1 → ks .kind (node-at q k .kind) .tidy (node-at q k .len) run ≡ true) (sym (same .same-run))
+            (subst (λ (x : Node). x .encoding ≡ 1 → ks .kind (x .kind) .tidy (x .len) (run-of m k) ≡ true) from (w .flat-tidy));
       }

@@ -6,8 +6,8 @@ use Rattle.encodings.specs.Meaning.{Encodings, flat-fields, no-shapes}
 
 abbrev pub flat-encodings : Kinds → Encodings
 flat-encodings ks = record {
-    has = λ id. eqb id 1;
-    fields-fit = λ f. flat-fields ks f;
-    slots-fit = λ f ss. no-shapes ss;
-    rows = λ f cs. None
-  }
+  has = λ id. eqb id 1;
+  fields-fit = λ f. flat-fields ks f;
+  slots-fit = λ f ss. no-shapes ss;
+  rows = λ f cs. None;
+}

@@ -35,8 +35,9 @@ abbrev pub rows-at : Kinds → Encodings → ℕ → Memory → ℕ → Option (
 rows-at ks es zero m k = None
 rows-at ks es (suc f) m k =
     elim (eqb (node-at m k .encoding) 1) [
-      true ↦ Some (rows (ks .kind (node-at m k .kind)) (node-at m k .len) (run-of m k))
-    | false ↦ elim (gathered (rows-at ks es f m) (slots-of (node-at m k))) [ None ↦ None | Some cs ↦ es .rows (fields-of (node-at m k)) cs ] ]
+      | true ↦ Some (rows (ks .kind (node-at m k .kind)) (node-at m k .len) (run-of m k))
+      | false ↦ elim (gathered (rows-at ks es f m) (slots-of (node-at m k))) [ None ↦ None | Some cs ↦ es .rows (fields-of (node-at m k)) cs ]
+    ]
 
 -- the rows of the array at k, if it has any
 unfoldable pub rows-of : Kinds → Encodings → Memory → ℕ → Option (List Row)

@@ -1,3 +1,3 @@
-pub mod matcher;
 pub mod encoding;
 pub mod flat;
+pub mod matcher;

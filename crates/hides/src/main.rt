@@ -23,7 +23,12 @@ use std::io::Read;
 use std::io::Write;
 
 // Answers the line that is waiting, and sends the answer on its way.
-fn answer_line<K: RowKinds, E: Encoding, B: Bank, M: Matcher>(planner: &mut Planner<'_, K, E, B, M>, line: &mut LineBuffer, out: &mut Vec<u8>, output: &mut impl Write) -> io::Result<()> {
+fn answer_line<K: RowKinds, E: Encoding, B: Bank, M: Matcher>(
+    planner: &mut Planner<'_, K, E, B, M>,
+    line: &mut LineBuffer,
+    out: &mut Vec<u8>,
+    output: &mut impl Write,
+) -> io::Result<()> {
     respond(planner, line.line(), out)?;
     line.clear();
     out.push(b'\n')?;
@@ -35,7 +40,14 @@ fn main(rt: LibcRuntime) -> io::Result<()> {
     let heap = rt.alloc();
     let mut nodes = [Node::FREE; NODES];
     let mut words = [0; WORDS];
-    let mut planner = Planner::new(&mut nodes, &mut words, BaseKinds, Flat, EmptyBank, AnyCanonical);
+    let mut planner = Planner::new(
+        &mut nodes,
+        &mut words,
+        BaseKinds,
+        Flat,
+        EmptyBank,
+        AnyCanonical,
+    );
     let digits = longest(&BaseKinds);
     let mut line = LineBuffer::new(heap, digits + 1)?;
     let mut out = Vec::with_capacity(heap, digits + 1)?;

@@ -26,7 +26,11 @@ use rows::kinds::RowKinds;
 use std::alloc::AllocError;
 
 // Writes the digits of the answer to a reading in place of what `out` held.
-fn answer_read<K: RowKinds, E: Encoding, B: Bank, M: Matcher>(planner: &Planner<'_, K, E, B, M>, root: u8, out: &mut Vec<u8>) -> Result<(), AllocError>
+fn answer_read<K: RowKinds, E: Encoding, B: Bank, M: Matcher>(
+    planner: &Planner<'_, K, E, B, M>,
+    root: u8,
+    out: &mut Vec<u8>,
+) -> Result<(), AllocError>
     ensures digits { λ r. ⌜ Wrote r (now (out .entry)) (now (out .exit)) (written (K·RowKinds .kinds (now (planner .entry) .kinds)) (read-out (state-of (now (planner .entry))) root)) ⌝ }
     ensures law { λ _. ⌜ ((h : History) → Reached (K·RowKinds .kinds (now (planner .entry) .kinds)) h (state-of (now (planner .entry))) → GoesOn (K·RowKinds .kinds (now (planner .entry) .kinds)) (E·Encoding .means (now (planner .entry) .encodings) (K·RowKinds .kinds (now (planner .entry) .kinds))) h (state-of (now (planner .entry))) (Some (read root)) (state-of (now (planner .entry)))) ⌝ }
     ensures capacity { λ _. ⌜ vec-cap (now (out .entry)) ≤ vec-cap (now (out .exit)) ⌝ }
@@ -37,7 +41,11 @@ fn answer_read<K: RowKinds, E: Encoding, B: Bank, M: Matcher>(planner: &Planner<
 }
 
 // Gives the planner a call, and writes the digits of its answer in place of what `out` held.
-fn answer_call<K: RowKinds, E: Encoding, B: Bank, M: Matcher>(planner: &mut Planner<'_, K, E, B, M>, call: Call, out: &mut Vec<u8>) -> Result<(), AllocError>
+fn answer_call<K: RowKinds, E: Encoding, B: Bank, M: Matcher>(
+    planner: &mut Planner<'_, K, E, B, M>,
+    call: Call,
+    out: &mut Vec<u8>,
+) -> Result<(), AllocError>
     ensures state { λ _. ⌜ state-of (now (planner .exit)) ≡ responded (K·RowKinds .kinds (now (planner .entry) .kinds)) (state-of (now (planner .entry))) (Some (told (call .entry))) .1 ⌝ }
     ensures digits { λ r. ⌜ Wrote r (now (out .entry)) (now (out .exit)) (written (K·RowKinds .kinds (now (planner .entry) .kinds)) (responded (K·RowKinds .kinds (now (planner .entry) .kinds)) (state-of (now (planner .entry))) (Some (told (call .entry))) .0)) ⌝ }
     ensures law { λ _. ⌜ ((h : History) → Reached (K·RowKinds .kinds (now (planner .entry) .kinds)) h (state-of (now (planner .entry))) → GoesOn (K·RowKinds .kinds (now (planner .entry) .kinds)) (E·Encoding .means (now (planner .entry) .encodings) (K·RowKinds .kinds (now (planner .entry) .kinds))) h (state-of (now (planner .entry))) (Some (told (call .entry))) (state-of (now (planner .exit)))) ⌝ }
@@ -47,7 +55,12 @@ fn answer_call<K: RowKinds, E: Encoding, B: Bank, M: Matcher>(planner: &mut Plan
     ensures encodings { λ _. ⌜ now (planner .exit) .encodings ≡ now (planner .entry) .encodings ⌝ }
 {
     match call {
-        Call::Make { root, kind, len, rows } => {
+        Call::Make {
+            root,
+            kind,
+            len,
+            rows,
+        } => {
             let result = planner.make(root, kind, len, rows);
             write_answer(&planner.kinds, answer(result), out)
         }
@@ -65,7 +78,11 @@ fn answer_call<K: RowKinds, E: Encoding, B: Bank, M: Matcher>(planner: &mut Plan
 
 // Answers one line of digits: the planner is given the call that it stands for, and the digits of the answer are
 // written in place of what `out` held. The line is decoded in place.
-pub fn respond<K: RowKinds, E: Encoding, B: Bank, M: Matcher>(planner: &mut Planner<'_, K, E, B, M>, line: &mut [u8], out: &mut Vec<u8>) -> Result<(), AllocError>
+pub fn respond<K: RowKinds, E: Encoding, B: Bank, M: Matcher>(
+    planner: &mut Planner<'_, K, E, B, M>,
+    line: &mut [u8],
+    out: &mut Vec<u8>,
+) -> Result<(), AllocError>
     ensures state { λ _. ⌜ state-of (now (planner .exit)) ≡ responded (K·RowKinds .kinds (now (planner .entry) .kinds)) (state-of (now (planner .entry))) (parses.asked (K·RowKinds .kinds (now (planner .entry) .kinds)) (now (line .entry))) .1 ⌝ }
     ensures digits { λ r. ⌜ Wrote r (now (out .entry)) (now (out .exit)) (written (K·RowKinds .kinds (now (planner .entry) .kinds)) (responded (K·RowKinds .kinds (now (planner .entry) .kinds)) (state-of (now (planner .entry))) (parses.asked (K·RowKinds .kinds (now (planner .entry) .kinds)) (now (line .entry))) .0)) ⌝ }
     ensures law { λ _. ⌜ ((h : History) → Reached (K·RowKinds .kinds (now (planner .entry) .kinds)) h (state-of (now (planner .entry))) → GoesOn (K·RowKinds .kinds (now (planner .entry) .kinds)) (E·Encoding .means (now (planner .entry) .encodings) (K·RowKinds .kinds (now (planner .entry) .kinds))) h (state-of (now (planner .entry))) (parses.asked (K·RowKinds .kinds (now (planner .entry) .kinds)) (now (line .entry))) (state-of (now (planner .exit)))) ⌝ }

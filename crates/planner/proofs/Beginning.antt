@@ -32,9 +32,9 @@ named-none k (suc n) = omega (arith, named-none k n)
 free-at : (n k : ℕ) → (getD (replicate n free-node) k blank ≡ free-node) ⊎ (getD (replicate n free-node) k blank ≡ blank)
 free-at n k =
     ⊎-elim
-        (λ h. inl (getD-replicate n k free-node blank h))
-        (λ h. inr (getD-past (replicate n free-node) k blank (omega (arith, length-replicate n free-node))))
-        (cases-lt k n)
+    (λ h. inl (getD-replicate n k free-node blank h))
+    (λ h. inr (getD-past (replicate n free-node) k blank (omega (arith, length-replicate n free-node))))
+    (cases-lt k n)
 
 -- a field that is 0 in the free node and past the nodes
 zero-at : (f : Node → ℕ) → f free-node ≡ 0 → f blank ≡ 0 → (k : ℕ) → f (getD (empty-memory .nodes) k blank) ≡ 0
@@ -52,23 +52,23 @@ no-start k = zero-at (λ nd. nd .start) refl refl k
 pub new-ordered : Ordered (new-state .memory) (names (new-state .roots))
 new-ordered =
     record {
-        nodes-long = length-replicate 256 free-node;
-        words-long = length-replicate {A = ℕ} 8192 0;
-        counts = λ k. no-count k ∙ sym (named-none k 256);
-        heights = λ k h. absurd (omega (arith, no-count k));
-        low = λ k. omega (arith, zero-at (λ nd. nd .height) refl refl k);
-        eight = λ k h. ap (λ (nd : Node). length (nd .slots)) (getD-replicate 256 k free-node blank (omega (arith, length-replicate 256 free-node)));
-        within = λ k. omega (arith, no-start k, no-run k);
-        apart = λ j k ne a b l. absurd (omega (arith, no-run j));
-        slotless = λ k c h. absurd (omega (arith, no-run k));
-        freed = λ k h e. getD-replicate 256 k free-node blank (omega (arith, length-replicate 256 free-node));
-        cleared = λ i h. ⊎-elim (λ l. getD-replicate 8192 i 0 0 l) (λ l. getD-past (replicate 8192 0) i 0 (omega (arith, length-replicate {A = ℕ} 8192 0))) (cases-lt i 8192)
+      nodes-long = length-replicate 256 free-node;
+      words-long = length-replicate {A = ℕ} 8192 0;
+      counts = λ k. no-count k ∙ sym (named-none k 256);
+      heights = λ k h. absurd (omega (arith, no-count k));
+      low = λ k. omega (arith, zero-at (λ nd. nd .height) refl refl k);
+      eight = λ k h. ap (λ (nd : Node). length (nd .slots)) (getD-replicate 256 k free-node blank (omega (arith, length-replicate 256 free-node)));
+      within = λ k. omega (arith, no-start k, no-run k);
+      apart = λ j k ne a b l. absurd (omega (arith, no-run j));
+      slotless = λ k c h. absurd (omega (arith, no-run k));
+      freed = λ k h e. getD-replicate 256 k free-node blank (omega (arith, length-replicate 256 free-node));
+      cleared = λ i h. ⊎-elim (λ l. getD-replicate 8192 i 0 0 l) (λ l. getD-past (replicate 8192 0) i 0 (omega (arith, length-replicate {A = ℕ} 8192 0))) (cases-lt i 8192);
     }
 
 pub new-good : (ks : Kinds) (es : Encodings) → Good ks es new-state
 new-good ks es =
     record {
-        roots-long = refl;
-        ordered = new-ordered;
-        whole = λ k h. absurd (omega (arith, no-count k))
+      roots-long = refl;
+      ordered = new-ordered;
+      whole = λ k h. absurd (omega (arith, no-count k));
     }

@@ -47,10 +47,10 @@ opened-by m kind n w i q (Some j) a (Some s) b e =
     let at : i ≡ j = cc in
     let y : q ≡ put-node m j (open-node kind n s w) = ap (λ (p : Result ℕ PoolFault × Memory). p .1) e in
     record {
-        inside = omega (arith, a .0);
-        start = s;
-        room = b s refl;
-        is = y ∙ ap (λ (k : ℕ). put-node m k (open-node kind n s w)) (sym at)
+      inside = omega (arith, a .0);
+      start = s;
+      room = b s refl;
+      is = y ∙ ap (λ (k : ℕ). put-node m k (open-node kind n s w)) (sym at);
     }
 
 pub opened-ok : (m : Memory) (kind n w i : ℕ) (q : Memory) → (Ok i, q) ≡ opened m kind n w → Opened m kind n w i q
@@ -101,11 +101,11 @@ module _ (ks : Kinds) (m q : Memory) (kind n w i : ℕ) (law : LawfulKind (ks .k
       let same = nodes-appended ks q i 0 rs in
       let nd : node-at (append-rows ks q i 0 rs) i ≡ open-node kind n (o .start) w = ap (λ (ns : List Node). getD ns i blank) same ∙ node-is in
       record {
-          inside = omega (arith, ap (λ (ns : List Node). length ns) same, nodes-long, o .inside);
-          within = omega (arith, ap (λ (x : Node). x .start) nd, ap (λ (x : Node). x .run) nd, words-long rs, ap (λ (ws : List ℕ). length ws) words-are, o .room .inside);
-          whole = subst (λ (x : Node). x .run ≡ ks .kind (x .kind) .words (x .len)) (sym nd) whole;
-          short = subst (λ (x : Node). k < x .len) (sym nd) short;
-          taken = subst (λ (x : Node). ks .kind (x .kind) .takes r ≡ true) (sym nd) taken
+        inside = omega (arith, ap (λ (ns : List Node). length ns) same, nodes-long, o .inside);
+        within = omega (arith, ap (λ (x : Node). x .start) nd, ap (λ (x : Node). x .run) nd, words-long rs, ap (λ (ws : List ℕ). length ws) words-are, o .room .inside);
+        whole = subst (λ (x : Node). x .run ≡ ks .kind (x .kind) .words (x .len)) (sym nd) whole;
+        short = subst (λ (x : Node). k < x .len) (sym nd) short;
+        taken = subst (λ (x : Node). ks .kind (x .kind) .takes r ≡ true) (sym nd) taken;
       }
 
   pub builder-inside : (rs : List Row) → i < length (append-rows ks q i 0 rs .nodes)

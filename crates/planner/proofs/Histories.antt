@@ -66,12 +66,12 @@ module _ (ks : Kinds) (es : Encodings) where
     entry-other c own x is others r h ne =
         let sp = others r (λ e. ne (e ∙ sym is)) in
         subst (λ (y : Option Entry). Entered ks es t r y) (sym (getD-set-other l own r x None ne))
-          (entered-kept s t r (getD l r None) (sp .same-root) (rows-spared s t r sp) (old r h))
+        (entered-kept s t r (getD l r None) (sp .same-root) (rows-spared s t r sp) (old r h))
 
     entry-own : (own : ℕ) (x : Option Entry) (r : ℕ) → own < 32 → r ≡ own → Entered ks es t own x → Entered ks es t r (getD (set l own x) r None)
     entry-own own x r low e h =
         subst (λ (k : ℕ). Entered ks es t k (getD (set l own x) k None)) (sym e)
-          (subst (λ (y : Option Entry). Entered ks es t own y) (sym (getD-set-same l own x None (omega (arith, long)))) h)
+        (subst (λ (y : Option Entry). Entered ks es t own y) (sym (getD-set-same l own x None (omega (arith, long)))) h)
 
     entry-same : t ≡ s → (r : ℕ) → r < 32 → Entered ks es t r (getD l r None)
     entry-same e r h = subst (λ (x : State). Entered ks es x r (getD l r None)) (sym e) (old r h)
@@ -79,24 +79,24 @@ module _ (ks : Kinds) (es : Encodings) where
     next-entered : (c : Told) (a : Said) → Step ks es s c a t → (r : ℕ) → r < 32 → Entered ks es t r (getD (elim (accepted a) as (λ b. List (Option Entry)) [ true ↦ entered ks l c | false ↦ l ]) r None)
     next-entered (make root kind n bytes) done st r h =
         ⊎-elim
-            (λ e. entry-own root (Some (parsed-rows (ks .kind kind) n bytes)) r (st .effect .0) e (entered-new t root (st .effect .1 .0) (parsed-rows (ks .kind kind) n bytes) (st .effect .1 .1) (st .makes)))
-            (λ ne. entry-other (make root kind n bytes) root (Some (parsed-rows (ks .kind kind) n bytes)) refl (st .others) r h ne)
-            (cases-eq r root)
+        (λ e. entry-own root (Some (parsed-rows (ks .kind kind) n bytes)) r (st .effect .0) e (entered-new t root (st .effect .1 .0) (parsed-rows (ks .kind kind) n bytes) (st .effect .1 .1) (st .makes)))
+        (λ ne. entry-other (make root kind n bytes) root (Some (parsed-rows (ks .kind kind) n bytes)) refl (st .others) r h ne)
+        (cases-eq r root)
     next-entered (make root kind n bytes) (rows a b c d) st r h = absurd (st .effect)
     next-entered (make root kind n bytes) (refused e) st r h = entry-same (st .effect) r h
     next-entered (share to from) done st r h =
         ⊎-elim
-            (λ e. entry-own to (getD l from None) r (st .effect .0) e
-                (entered-shared s t to from (st .effect .2 .0) (getD l from None) (st .effect .2 .1) (st .effect .2 .2) (st .shares) (old from (st .effect .1))))
-            (λ ne. entry-other (share to from) to (getD l from None) refl (st .others) r h ne)
-            (cases-eq r to)
+        (λ e. entry-own to (getD l from None) r (st .effect .0) e
+        (entered-shared s t to from (st .effect .2 .0) (getD l from None) (st .effect .2 .1) (st .effect .2 .2) (st .shares) (old from (st .effect .1))))
+        (λ ne. entry-other (share to from) to (getD l from None) refl (st .others) r h ne)
+        (cases-eq r to)
     next-entered (share to from) (rows a b c d) st r h = absurd (st .effect)
     next-entered (share to from) (refused e) st r h = entry-same (st .effect) r h
     next-entered (release root) done st r h =
         ⊎-elim
-            (λ e. entry-own root None r (st .effect .0) e (st .effect .1))
-            (λ ne. entry-other (release root) root None refl (st .others) r h ne)
-            (cases-eq r root)
+        (λ e. entry-own root None r (st .effect .0) e (st .effect .1))
+        (λ ne. entry-other (release root) root None refl (st .others) r h ne)
+        (cases-eq r root)
     next-entered (release root) (rows a b c d) st r h = absurd (st .effect)
     next-entered (release root) (refused e) st r h = entry-same (st .effect) r h
     next-entered (read root) done st r h = absurd (st .effect)
@@ -166,26 +166,32 @@ module _ (ks : Kinds) (lawful : LawfulKinds ks) (es : Encodings) (means : Lawful
   pub history-law : (h : History) → Answered ks h → Good ks es (state-after h) × Law ks es h
   history-law [] answered =
       let g = new-good ks es in
-      let falling = heights-falling (new-state .memory .nodes) (names (new-state .roots)) (g .ordered .counts) (g .ordered .heights) in
-      (g, record {
+      let falling = heights-falling (new-state .memory .nodes) (names (new-state .roots)) (g .ordered .counts) (g .ordered .heights) in (
+        g,
+        record {
           answered = tt;
           entries = λ r low. subst (λ (x : Option Entry). Entered ks es new-state r x) (sym (none-at 32 r)) (none-at 32 r);
           found = λ r k e. tt;
-          made = tt; shared = tt; read = tt;
+          made = tt;
+          shared = tt;
+          read = tt;
           counted = g .ordered .counts;
           reached = counts-exact (new-state .memory .nodes) (names (new-state .roots)) (g .ordered .counts) falling;
-          unchanged = tt; others = tt;
-          whole = whole-of new-state g
-      })
+          unchanged = tt;
+          others = tt;
+          whole = whole-of new-state g;
+        },
+      )
   history-law (m ∷ h) answered =
       let before = history-law h (answered .1) in
       let old : Law ks es h = before .1 in
       let s : State = state-after h in
       let st : Step ks es s (m .call) (m .answer) (m .after)
-          = subst (λ (p : Said × State). Step ks es s (m .call) (p .0) (p .1)) (sym (answered .0)) (call-step ks lawful es means s (before .0) (m .call)) in
+      = subst (λ (p : Said × State). Step ks es s (m .call) (p .0) (p .1)) (sym (answered .0)) (call-step ks lawful es means s (before .0) (m .call)) in
       let g = st .good in
-      let falling = heights-falling _ _ (g .ordered .counts) (g .ordered .heights) in
-      (g, record {
+      let falling = heights-falling _ _ (g .ordered .counts) (g .ordered .heights) in (
+        g,
+        record {
           answered = answered;
           entries = next-entered ks es s (m .after) (ledger ks h) (ledger-long ks es h) (old .entries) (m .call) (m .answer) st;
           found = next-found ks es m h st (old .found);
@@ -196,14 +202,15 @@ module _ (ks : Kinds) (lawful : LawfulKinds ks) (es : Encodings) (means : Lawful
           reached = counts-exact _ _ (g .ordered .counts) falling;
           unchanged = (st .unchanged, old .unchanged);
           others = (st .others, old .others);
-          whole = whole-of (m .after) g
-      })
+          whole = whole-of (m .after) g;
+        },
+      )
 
   -- one call more
   pub extended : (h : History) (s t : State) (c : Told) (a : Said) → Reached ks h s → (a, t) ≡ called ks s c → Extends ks es h c a t
   extended h s t c a r e =
       let p : (a, t) ≡ called ks (state-after h) c = e ∙ ap (λ (x : State). called ks x c) (sym (r .here)) in
       record {
-          reached = record { answered = (p, r .answered); here = refl };
-          law = history-law (record { call = c; answer = a; after = t } ∷ h) (p, r .answered) .1
+        reached = record { answered = (p, r .answered); here = refl };
+        law = history-law (record { call = c; answer = a; after = t } ∷ h) (p, r .answered) .1;
       }

@@ -49,9 +49,17 @@ names-emptied x k ss j h e =
 pub ordered-like : (m : Memory) (hs gs : List ℕ) → ((k : ℕ) → times k hs ≡ times k gs) → Ordered m hs → Ordered m gs
 ordered-like m hs gs e o =
     record {
-        nodes-long = o .nodes-long; words-long = o .words-long;
-        counts = λ k. omega (arith, o .counts k, e k);
-        heights = o .heights; low = o .low; eight = o .eight; within = o .within; apart = o .apart; slotless = o .slotless; freed = o .freed; cleared = o .cleared
+      nodes-long = o .nodes-long;
+      words-long = o .words-long;
+      counts = λ k. omega (arith, o .counts k, e k);
+      heights = o .heights;
+      low = o .low;
+      eight = o .eight;
+      within = o .within;
+      apart = o .apart;
+      slotless = o .slotless;
+      freed = o .freed;
+      cleared = o .cleared;
     }
 
 -- a holder other than the first is one of the rest

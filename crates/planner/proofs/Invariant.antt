@@ -64,9 +64,17 @@ disjoint-of ns a j k h = a j k (h .0) (h .1) (h .2) (h .3)
 pub ordered-of : {K E B M : Type 0} (p : Planner K E B M) → Ordered (state-of p .memory) (names (p .roots))
 ordered-of p =
     record {
-        nodes-long = p .«nodes_long»; words-long = p .«words_long»; counts = p .counts; heights = p .heights; low = p .low; eight = p .eight;
-        within = p .within; apart = apart-of (p .pool .nodes .now) (p .apart); slotless = p .slotless;
-        freed = freed-of (p .pool .nodes .now) (p .eight) (p .freed); cleared = p .cleared
+      nodes-long = p .«nodes_long»;
+      words-long = p .«words_long»;
+      counts = p .counts;
+      heights = p .heights;
+      low = p .low;
+      eight = p .eight;
+      within = p .within;
+      apart = apart-of (p .pool .nodes .now) (p .apart);
+      slotless = p .slotless;
+      freed = freed-of (p .pool .nodes .now) (p .eight) (p .freed);
+      cleared = p .cleared;
     }
 
 -- what a planner's ghost fields say, in their order

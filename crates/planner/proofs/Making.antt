@@ -22,7 +22,7 @@ use Rattle.pool.specs.Building.{built}
 use Rattle.pool.proofs.Building.{Outcome, built-is}
 use Rattle.planner.specs.Called.{in-range, sized, parsed-rows, rows-made}
 use Rattle.planner.specs.Contract.{rows-parsed}
-use Rattle.planner.proofs.Parsing.{parsed-value, parsed-long} 
+use Rattle.planner.proofs.Parsing.{parsed-value, parsed-long}
 use Rattle.planner.proofs.Parsing as parsing
 use Rattle.planner.proofs.Rooted.{filled-ordered}
 

@@ -29,12 +29,15 @@ does ks es lawful means s t c a e = record { value = e; law = λ h r. extended k
 abbrev pub share-by : State → ℕ → Bool → Option ℕ → Option ℕ → Said × State
 share-by s to range source target =
     elim range [
-      false ↦ (refused RootRange, s)
-    | true ↦ elim source [
-        None ↦ (refused RootEmpty, s)
-      | Some k ↦ elim target [
-          Some j ↦ (refused RootTaken, s)
-        | None ↦ (done, with-root s (sharing.retained (s .memory) k) to (Some k)) ] ] ]
+      | false ↦ (refused RootRange, s)
+      | true ↦ elim source [
+        | None ↦ (refused RootEmpty, s)
+        | Some k ↦ elim target [
+          | Some j ↦ (refused RootTaken, s)
+          | None ↦ (done, with-root s (sharing.retained (s .memory) k) to (Some k))
+        ]
+      ]
+    ]
 
 pub shared-is : (s : State) (to from : ℕ) (range : Bool) (source target : Option ℕ) → (ltb to 32 && ltb from 32) ≡ range → root-at s from ≡ source → root-at s to ≡ target → share-by s to range source target ≡ shared s to from
 shared-is s to from range source target a b c =
@@ -46,10 +49,12 @@ shared-is s to from range source target a b c =
 abbrev pub release-by : State → ℕ → Bool → Option ℕ → Said × State
 release-by s root range held =
     elim range [
-      false ↦ (refused RootRange, s)
-    | true ↦ elim held [
-        None ↦ (refused RootEmpty, s)
-      | Some k ↦ (done, with-root s (sharing.release (s .memory) k) root None) ] ]
+      | false ↦ (refused RootRange, s)
+      | true ↦ elim held [
+        | None ↦ (refused RootEmpty, s)
+        | Some k ↦ (done, with-root s (sharing.release (s .memory) k) root None)
+      ]
+    ]
 
 pub emptied-is : (s : State) (root : ℕ) (range : Bool) (held : Option ℕ) → ltb root 32 ≡ range → root-at s root ≡ held → release-by s root range held ≡ emptied s root
 emptied-is s root range held a b =
@@ -73,14 +78,18 @@ handed-is m k flat e = sym (ap (λ (x : Bool). hand-by m k x) e)
 abbrev pub make-by : Kinds → State → ℕ → ℕ → ℕ → Bool → Bool → Option ℕ → Option (List Row) → Said × State
 make-by ks s root kind n size range held rs =
     elim size [
-      false ↦ (refused Line, s)
-    | true ↦ elim range [
-        false ↦ (refused RootRange, s)
-      | true ↦ elim held [
-          Some k ↦ (refused RootTaken, s)
-        | None ↦ elim rs [
-            None ↦ (refused Field, s)
-          | Some xs ↦ placed s root (built ks (s .memory) kind n xs) ] ] ] ]
+      | false ↦ (refused Line, s)
+      | true ↦ elim range [
+        | false ↦ (refused RootRange, s)
+        | true ↦ elim held [
+          | Some k ↦ (refused RootTaken, s)
+          | None ↦ elim rs [
+            | None ↦ (refused Field, s)
+            | Some xs ↦ placed s root (built ks (s .memory) kind n xs)
+          ]
+        ]
+      ]
+    ]
 
 pub made-is : (ks : Kinds) (s : State) (root kind n : ℕ) (bytes : List ℕ) (size range : Bool) (held : Option ℕ) (rs : Option (List Row)) → sized ks kind n bytes ≡ size → ltb root 32 ≡ range → root-at s root ≡ held → rows-made ks kind n bytes ≡ rs → make-by ks s root kind n size range held rs ≡ made ks s root kind n bytes
 made-is ks s root kind n bytes size range held rs a b c d =

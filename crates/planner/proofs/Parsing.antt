@@ -37,7 +37,7 @@ rows-parsed kd lawful (suc n) bs rs e =
     let p = more-some (kd .parsed (take (kd .width) bs)) (parsed-rows kd n (drop (kd .width) bs)) rs e in
     let rest = rows-parsed kd lawful n (drop (kd .width) bs) (p .1) (p .3) in
     subst (λ (l : List Row). Rows kd (suc n) l) (sym (p .4))
-      (record { long = ap (λ (x : ℕ). suc x) (rest .long); taken = (lawful .parsed-taken (take (kd .width) bs) (p .0) (p .2), rest .taken) })
+    (record { long = ap (λ (x : ℕ). suc x) (rest .long); taken = (lawful .parsed-taken (take (kd .width) bs) (p .0) (p .2), rest .taken) })
 
 -- ---- one row after the other
 -- the first of n rows

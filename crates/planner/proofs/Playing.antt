@@ -29,14 +29,15 @@ played-more ks cs i d h = ap (λ (l : List Told). played ks [] l) (map-more told
 -- what is heard and what is left after one call more
 pub play-more : (ks kt : Kinds) → kt ≡ ks → (cs : List Call) (i : ℕ) (d : Call) → i < length cs → (s t : State) → s ≡ state-after (played ks [] (map told (take i cs))) → t ≡ called kt s (told (getD cs i d)) .1
     → ((before : List Said) → (before ++ answers (played ks [] (map told (take i cs)))) ++ called kt s (told (getD cs i d)) .0 ∷ [] ≡ before ++ answers (played ks [] (map told (take (i + 1) cs))))
-      × (t ≡ state-after (played ks [] (map told (take (i + 1) cs))))
+    × (t ≡ state-after (played ks [] (map told (take (i + 1) cs))))
 play-more ks kt k cs i d lt s t b f =
     let h : History = played ks [] (map told (take i cs)) in
     let c : Told = told (getD cs i d) in
     let p = played-more ks cs i d lt in
-    let said : called kt s c ≡ called ks (state-after h) c = ap (λ (x : Kinds). called x s c) k ∙ ap (λ (x : State). called ks x c) b in
-    ( (λ before.
-        ap (λ (x : Said × State). (before ++ answers h) ++ x .0 ∷ []) said
-        ∙ append-assoc before (answers h) (called ks (state-after h) c .0 ∷ [])
-        ∙ sym (ap (λ (x : History). before ++ answers x) p))
-    , f ∙ ap (λ (x : Said × State). x .1) said ∙ sym (ap (λ (x : History). state-after x) p) )
+    let said : called kt s c ≡ called ks (state-after h) c = ap (λ (x : Kinds). called x s c) k ∙ ap (λ (x : State). called ks x c) b in (
+      (λ before.
+          ap (λ (x : Said × State). (before ++ answers h) ++ x .0 ∷ []) said
+          ∙ append-assoc before (answers h) (called ks (state-after h) c .0 ∷ [])
+          ∙ sym (ap (λ (x : History). before ++ answers x) p)),
+      f ∙ ap (λ (x : Said × State). x .1) said ∙ sym (ap (λ (x : History). state-after x) p),
+    )

@@ -99,8 +99,8 @@ module _ (ks : Kinds) (es : Encodings) (s : State) (good : Good ks es s) where
 spared : (s : State) (q : Memory) (own r : ℕ) (o : Option ℕ) (hs : List ℕ) → Keeps (s .memory) q hs → ((k : ℕ) → root-at s r ≡ Some k → 0 < times k hs) → (r ≡ own → ⊥) → Spares s (with-root s q own o) r
 spared s q own r o hs keeps holds ne =
     record {
-        same-root = getD-set-other (s .roots) own r o None ne;
-        same-array = λ k j e h. keeps j (k, holds k e, h)
+      same-root = getD-set-other (s .roots) own r o None ne;
+      same-array = λ k j e h. keeps j (k, holds k e, h);
     }
 
 module _ (ks : Kinds) (lawful : LawfulKinds ks) (es : Encodings) (means : LawfulEncodings ks es) (s : State) (good : Good ks es s) where
@@ -120,18 +120,18 @@ module _ (ks : Kinds) (lawful : LawfulKinds ks) (es : Encodings) (means : Lawful
     built-whole q rs i known few b =
         let nd : Node = node-at q i in
         let fit : flat-fields ks (fields-of nd) ≡ true
-            = and-from _ _ (ap (λ (x : ℕ). ks .has x) (b .kind-is) ∙ known)
-              (and-from _ _ (le-leb _ _ (omega (arith, b .len-is)))
-              (and-from _ _ (eq-eqb _ _ (b .parameter-is)) (eq-eqb _ _ (b .arity-is)))) in
+        = and-from _ _ (ap (λ (x : ℕ). ks .has x) (b .kind-is) ∙ known)
+        (and-from _ _ (le-leb _ _ (omega (arith, b .len-is)))
+        (and-from _ _ (eq-eqb _ _ (b .parameter-is)) (eq-eqb _ _ (b .arity-is)))) in
         let none : slots-of nd ≡ [] = ap (λ (x : ℕ). take x (nd .slots)) (b .arity-is) in
         let shapes : SlotsFit es (fields-of nd) (shapes-of q []) = means .flat-slots (fields-of nd) [] (b .encoding-is) in
         record {
-            known = ap (λ (x : ℕ). es .has x) (b .encoding-is) ∙ means .flat-has;
-            fields-fit = means .flat-fits (fields-of nd) (b .encoding-is) ∙ fit;
-            slots-fit = subst (λ (ss : List (Option ℕ)). SlotsFit es (fields-of nd) (shapes-of q ss)) (sym none) shapes;
-            no-more = ap (λ (x : ℕ). names (drop x (nd .slots))) (b .arity-is) ∙ ap (λ (ss : List (Option ℕ)). names ss) (b .slots-is);
-            flat-run = λ e. b .run-is ∙ sym (ap (λ (x : ℕ). ks .kind x .words (nd .len)) (b .kind-is) ∙ ap (λ (x : ℕ). ks .kind kind .words x) (b .len-is));
-            flat-tidy = λ e. ap (λ (x : ℕ). ks .kind x .tidy (nd .len) (run-of q i)) (b .kind-is) ∙ ap (λ (x : ℕ). ks .kind kind .tidy x (run-of q i)) (b .len-is) ∙ b .tidy-is
+          known = ap (λ (x : ℕ). es .has x) (b .encoding-is) ∙ means .flat-has;
+          fields-fit = means .flat-fits (fields-of nd) (b .encoding-is) ∙ fit;
+          slots-fit = subst (λ (ss : List (Option ℕ)). SlotsFit es (fields-of nd) (shapes-of q ss)) (sym none) shapes;
+          no-more = ap (λ (x : ℕ). names (drop x (nd .slots))) (b .arity-is) ∙ ap (λ (ss : List (Option ℕ)). names ss) (b .slots-is);
+          flat-run = λ e. b .run-is ∙ sym (ap (λ (x : ℕ). ks .kind x .words (nd .len)) (b .kind-is) ∙ ap (λ (x : ℕ). ks .kind kind .words x) (b .len-is));
+          flat-tidy = λ e. ap (λ (x : ℕ). ks .kind x .tidy (nd .len) (run-of q i)) (b .kind-is) ∙ ap (λ (x : ℕ). ks .kind kind .tidy x (run-of q i)) (b .len-is) ∙ b .tidy-is;
         }
 
     -- a node without slots reaches only itself
@@ -153,29 +153,29 @@ module _ (ks : Kinds) (lawful : LawfulKinds ks) (es : Encodings) (means : Lawful
         let old : (k : ℕ) → Held (m .nodes) hs k → WholeAt ks es m k = λ k h. good .whole k (held-used (m .nodes) hs k (good .ordered .counts) h) in
         let new : WholeAt ks es q i = built-whole q rs i known few b in
         let from-new : (k : ℕ) → Reaches (q .nodes) i k → WholeAt ks es q k
-            = λ k r. subst (λ (x : ℕ). WholeAt ks es q x) (sym (alone q i k (b .slots-is) r)) new in
+        = λ k r. subst (λ (x : ℕ). WholeAt ks es q x) (sym (alone q i k (b .slots-is) r)) new in
         let by-holder : (a k : ℕ) → 0 < times a (i ∷ hs) → Reaches (q .nodes) a k → (a ≡ i) ⊎ (a ≡ i → ⊥) → WholeAt ks es q k
-            = λ a k h r d. ⊎-elim
-                (λ e. from-new k (subst (λ (x : ℕ). Reaches (q .nodes) x k) e r))
-                (λ ne. kept-whole m q hs keeps ks es old k (a, held-other a i hs ne h, r)) d in
+        = λ a k h r d. ⊎-elim
+        (λ e. from-new k (subst (λ (x : ℕ). Reaches (q .nodes) x k) e r))
+        (λ ne. kept-whole m q hs keeps ks es old k (a, held-other a i hs ne h, r)) d in
         record {
-            good = record {
-                roots-long = length-set (s .roots) root (Some i) ∙ good .roots-long;
-                ordered = ordered-like q (i ∷ hs) (names (set (s .roots) root (Some i))) (λ x. names-filled x i (s .roots) root inside empty) order;
-                whole = λ k u. let h = exact k .0 u in by-holder (h .0) k (h .1) (h .2) (cases-eq (h .0) i)
-            };
-            effect = (low, (i, there));
-            makes =
-                ap (λ (o : Option ℕ). under q o) there
-                ∙ flat-rows ks es q i (b .encoding-is)
-                ∙ ap (λ (x : ℕ). Some (kinds.rows (ks .kind x) (node-at q i .len) (run-of q i))) (b .kind-is)
-                ∙ ap (λ (x : ℕ). Some (kinds.rows (ks .kind kind) x (run-of q i))) (b .len-is)
-                ∙ ap (λ (l : List Row). Some l) (b .rows-is)
-                ∙ sym parsed;
-            shares = tt;
-            reads = tt;
-            unchanged = tt;
-            others = λ r ne. spared s q root r (Some i) hs keeps (λ k e. names-at k (s .roots) r e) ne
+          good = record {
+            roots-long = length-set (s .roots) root (Some i) ∙ good .roots-long;
+            ordered = ordered-like q (i ∷ hs) (names (set (s .roots) root (Some i))) (λ x. names-filled x i (s .roots) root inside empty) order;
+            whole = λ k u. let h = exact k .0 u in by-holder (h .0) k (h .1) (h .2) (cases-eq (h .0) i);
+          };
+          effect = (low, (i, there));
+          makes =
+              ap (λ (o : Option ℕ). under q o) there
+              ∙ flat-rows ks es q i (b .encoding-is)
+              ∙ ap (λ (x : ℕ). Some (kinds.rows (ks .kind x) (node-at q i .len) (run-of q i))) (b .kind-is)
+              ∙ ap (λ (x : ℕ). Some (kinds.rows (ks .kind kind) x (run-of q i))) (b .len-is)
+              ∙ ap (λ (l : List Row). Some l) (b .rows-is)
+              ∙ sym parsed;
+          shares = tt;
+          reads = tt;
+          unchanged = tt;
+          others = λ r ne. spared s q root r (Some i) hs keeps (λ k e. names-at k (s .roots) r e) ne;
         }
       where
         under : Memory → Option ℕ → Option (List Row)
@@ -197,18 +197,18 @@ module _ (ks : Kinds) (lawful : LawfulKinds ks) (es : Encodings) (means : Lawful
         let taken : Option ℕ → Said × State = λ o. elim o [ None ↦ fields (rows-made ks kind n bytes) | Some k ↦ (refused RootTaken, s) ] in
         let range : Bool → Said × State = λ b. elim b [ true ↦ taken (root-at s root) | false ↦ (refused RootRange, s) ] in
         bool-both (sized ks kind n bytes) (range (ltb root 32)) (refused Line, s) Does
-            (λ size. bool-both (ltb root 32) (taken (root-at s root)) (refused RootRange, s) Does
-                (λ low. option-both (root-at s root) (fields (rows-made ks kind n bytes)) (λ k. (refused RootTaken, s)) Does
-                    (λ empty. option-both (rows-made ks kind n bytes) (refused Field, s) work Does
-                        (λ e. no Field)
-                        (λ rs e.
-                            let r = rows-made-is rs e in
-                            let w = rows-parsed (ks .kind kind) (lawful .lawful kind) n bytes rs (r .2) in
-                            placed-step rs (ltb-true root 32 low) empty (r .0) (r .1) (r .2) (built ks m kind n rs)
-                                (built-is ks m hs kind n rs (lawful .lawful kind) (good .ordered) (w .long) (w .taken))))
-                    (λ k e. no RootTaken))
-                (λ high. no RootRange))
-            (λ wrong. no Line)
+        (λ size. bool-both (ltb root 32) (taken (root-at s root)) (refused RootRange, s) Does
+        (λ low. option-both (root-at s root) (fields (rows-made ks kind n bytes)) (λ k. (refused RootTaken, s)) Does
+        (λ empty. option-both (rows-made ks kind n bytes) (refused Field, s) work Does
+        (λ e. no Field)
+        (λ rs e.
+        let r = rows-made-is rs e in
+        let w = rows-parsed (ks .kind kind) (lawful .lawful kind) n bytes rs (r .2) in
+        placed-step rs (ltb-true root 32 low) empty (r .0) (r .1) (r .2) (built ks m kind n rs)
+        (built-is ks m hs kind n rs (lawful .lawful kind) (good .ordered) (w .long) (w .taken))))
+        (λ k e. no RootTaken))
+        (λ high. no RootRange))
+        (λ wrong. no Line)
       where
         rows-made-is : (rs : List Row) → rows-made ks kind n bytes ≡ Some rs → (ks .has kind ≡ true) × (n ≤ 1024) × (parsed-rows (ks .kind kind) n bytes ≡ Some rs)
         rows-made-is rs e = by (in-range ks kind n) refl e
@@ -232,22 +232,22 @@ module _ (ks : Kinds) (lawful : LawfulKinds ks) (es : Encodings) (means : Lawful
         let exact = counts-exact (q .nodes) (k ∷ hs) (order .counts) (heights-falling (q .nodes) (k ∷ hs) (order .counts) (order .heights)) in
         let old : (j : ℕ) → Held (m .nodes) hs j → WholeAt ks es m j = λ j h. good .whole j (held-used (m .nodes) hs j (good .ordered .counts) h) in
         let among : (a : ℕ) → 0 < times a (k ∷ hs) → (a ≡ k) ⊎ (a ≡ k → ⊥) → 0 < times a hs
-            = λ a h d. ⊎-elim (λ e. subst (λ (x : ℕ). 0 < times x hs) (sym e) (names-at k (s .roots) from source)) (λ ne. held-other a k hs ne h) d in
+        = λ a h d. ⊎-elim (λ e. subst (λ (x : ℕ). 0 < times x hs) (sym e) (names-at k (s .roots) from source)) (λ ne. held-other a k hs ne h) d in
         record {
-            good = record {
-                roots-long = length-set (s .roots) to (Some k) ∙ good .roots-long;
-                ordered = ordered-like q (k ∷ hs) (names (set (s .roots) to (Some k))) (λ x. names-filled x k (s .roots) to inside empty) order;
-                whole = λ j u. let h = exact j .0 u in kept-whole m q hs keeps ks es old j (h .0, among (h .0) (h .1) (cases-eq (h .0) k), h .2)
-            };
-            effect = (low, low′, (k, there, source));
-            makes = tt;
-            shares =
-                ap (λ (o : Option ℕ). rows-in q o) there
-                ∙ rows-kept ks es m q k (held-kept m q hs keeps k held)
-                ∙ sym (ap (λ (o : Option ℕ). rows-in m o) source);
-            reads = tt;
-            unchanged = tt;
-            others = λ r ne. spared s q to r (Some k) hs keeps (λ j e. names-at j (s .roots) r e) ne
+          good = record {
+            roots-long = length-set (s .roots) to (Some k) ∙ good .roots-long;
+            ordered = ordered-like q (k ∷ hs) (names (set (s .roots) to (Some k))) (λ x. names-filled x k (s .roots) to inside empty) order;
+            whole = λ j u. let h = exact j .0 u in kept-whole m q hs keeps ks es old j (h .0, among (h .0) (h .1) (cases-eq (h .0) k), h .2);
+          };
+          effect = (low, low′, (k, there, source));
+          makes = tt;
+          shares =
+              ap (λ (o : Option ℕ). rows-in q o) there
+              ∙ rows-kept ks es m q k (held-kept m q hs keeps k held)
+              ∙ sym (ap (λ (o : Option ℕ). rows-in m o) source);
+          reads = tt;
+          unchanged = tt;
+          others = λ r ne. spared s q to r (Some k) hs keeps (λ j e. names-at j (s .roots) r e) ne;
         }
       where
         rows-in : Memory → Option ℕ → Option (List Row)
@@ -261,12 +261,12 @@ module _ (ks : Kinds) (lawful : LawfulKinds ks) (es : Encodings) (means : Lawful
         let taken : ℕ → Option ℕ → Said × State = λ k o. elim o [ None ↦ work k | Some j ↦ (refused RootTaken, s) ] in
         let empty : Option ℕ → Said × State = λ o. elim o [ None ↦ (refused RootEmpty, s) | Some k ↦ taken k (root-at s to) ] in
         bool-both (ltb to 32 && ltb from 32) (empty (root-at s from)) (refused RootRange, s) Does
-            (λ low. option-both (root-at s from) (refused RootEmpty, s) (λ k. taken k (root-at s to)) Does
-                (λ e. no RootEmpty)
-                (λ k source. option-both (root-at s to) (work k) (λ j. (refused RootTaken, s)) Does
-                    (λ free. let p = and-parts (ltb to 32) (ltb from 32) low in share-done k (ltb-true to 32 (p .0)) (ltb-true from 32 (p .1)) source free)
-                    (λ j e. no RootTaken)))
-            (λ high. no RootRange)
+        (λ low. option-both (root-at s from) (refused RootEmpty, s) (λ k. taken k (root-at s to)) Does
+        (λ e. no RootEmpty)
+        (λ k source. option-both (root-at s to) (work k) (λ j. (refused RootTaken, s)) Does
+        (λ free. let p = and-parts (ltb to 32) (ltb from 32) low in share-done k (ltb-true to 32 (p .0)) (ltb-true from 32 (p .1)) source free)
+        (λ j e. no RootTaken)))
+        (λ high. no RootRange)
 
   -- ---- release
   module _ (root : ℕ) where
@@ -282,19 +282,19 @@ module _ (ks : Kinds) (lawful : LawfulKinds ks) (es : Encodings) (means : Lawful
         let exact = counts-exact (q .nodes) rest (order .counts) (heights-falling (q .nodes) rest (order .counts) (order .heights)) in
         let more : (a : ℕ) → 0 < times a rest → 0 < times a hs = λ a h. omega (arith, names-emptied a k (s .roots) root inside held) in
         let old : (j : ℕ) → Held (m .nodes) rest j → WholeAt ks es m j
-            = λ j h. good .whole j (held-used (m .nodes) hs j (good .ordered .counts) (h .0, more (h .0) (h .1), h .2)) in
+        = λ j h. good .whole j (held-used (m .nodes) hs j (good .ordered .counts) (h .0, more (h .0) (h .1), h .2)) in
         record {
-            good = record {
-                roots-long = length-set (s .roots) root None ∙ good .roots-long;
-                ordered = order;
-                whole = λ j u. kept-whole m q rest keeps ks es old j (exact j .0 u)
-            };
-            effect = (low, getD-set-same (s .roots) root None None inside);
-            makes = tt;
-            shares = tt;
-            reads = tt;
-            unchanged = tt;
-            others = λ r ne. spared s q root r None rest keeps (λ j e. names-at j (set (s .roots) root None) r (getD-set-other (s .roots) root r None None ne ∙ e)) ne
+          good = record {
+            roots-long = length-set (s .roots) root None ∙ good .roots-long;
+            ordered = order;
+            whole = λ j u. kept-whole m q rest keeps ks es old j (exact j .0 u);
+          };
+          effect = (low, getD-set-same (s .roots) root None None inside);
+          makes = tt;
+          shares = tt;
+          reads = tt;
+          unchanged = tt;
+          others = λ r ne. spared s q root r None rest keeps (λ j e. names-at j (set (s .roots) root None) r (getD-set-other (s .roots) root r None None ne ∙ e)) ne;
         }
 
     pub release-step : Step ks es s (release root) (emptied s root .0) (emptied s root .1)
@@ -304,10 +304,10 @@ module _ (ks : Kinds) (lawful : LawfulKinds ks) (es : Encodings) (means : Lawful
         let work : ℕ → Said × State = λ k. (done, with-root s (sharing.release m k) root None) in
         let empty : Option ℕ → Said × State = λ o. elim o [ None ↦ (refused RootEmpty, s) | Some k ↦ work k ] in
         bool-both (ltb root 32) (empty (root-at s root)) (refused RootRange, s) Does
-            (λ low. option-both (root-at s root) (refused RootEmpty, s) work Does
-                (λ e. no RootEmpty)
-                (λ k e. release-done k (ltb-true root 32 low) e))
-            (λ high. no RootRange)
+        (λ low. option-both (root-at s root) (refused RootEmpty, s) work Does
+        (λ e. no RootEmpty)
+        (λ k e. release-done k (ltb-true root 32 low) e))
+        (λ high. no RootRange)
 
   -- ---- reading
   module _ (root : ℕ) where
@@ -318,23 +318,26 @@ module _ (ks : Kinds) (lawful : LawfulKinds ks) (es : Encodings) (means : Lawful
         let fit : flat-fields ks (fields-of (node-at m k)) ≡ true = sym (means .flat-fits (fields-of (node-at m k)) flat) ∙ w .fields-fit in
         let few : node-at m k .len ≤ 1024 = leb-true (node-at m k .len) 1024 (and-parts _ _ (and-parts _ _ fit .1) .0) in
         let long : length (run-of m k) ≡ runAt (m .nodes) k
-            = omega (arith, length-take (runAt (m .nodes) k) (drop (startAt (m .nodes) k) (m .words)), length-drop (startAt (m .nodes) k) (m .words), good .ordered .within k) in
+        = omega (arith, length-take (runAt (m .nodes) k) (drop (startAt (m .nodes) k) (m .words)), length-drop (startAt (m .nodes) k) (m .words), good .ordered .within k) in
         record {
-            good = good;
-            effect = refl;
-            makes = tt;
-            shares = tt;
-            reads = record {
-                array = k;
-                under = held;
-                kind-is = refl; len-is = refl; place-is = refl; words-are = refl;
-                few = few;
-                words-long = long ∙ w .flat-run flat;
-                rows-are = ap (λ (o : Option ℕ). rows-in o) held ∙ flat-rows ks es m k flat;
-                tidy = w .flat-tidy flat
-            };
-            unchanged = refl;
-            others = λ r h. same-spares s r
+          good = good;
+          effect = refl;
+          makes = tt;
+          shares = tt;
+          reads = record {
+            array = k;
+            under = held;
+            kind-is = refl;
+            len-is = refl;
+            place-is = refl;
+            words-are = refl;
+            few = few;
+            words-long = long ∙ w .flat-run flat;
+            rows-are = ap (λ (o : Option ℕ). rows-in o) held ∙ flat-rows ks es m k flat;
+            tidy = w .flat-tidy flat;
+          };
+          unchanged = refl;
+          others = λ r h. same-spares s r;
         }
       where
         rows-in : Option ℕ → Option (List Row)
@@ -346,12 +349,12 @@ module _ (ks : Kinds) (lawful : LawfulKinds ks) (es : Encodings) (means : Lawful
         let no : (e : Refusal) → Does (refused e) = λ e. refused-read ks es s good root e in
         let empty : Option ℕ → Said = λ o. elim o [ None ↦ refused RootEmpty | Some k ↦ handed m k ] in
         bool-both (ltb root 32) (empty (root-at s root)) (refused RootRange) Does
-            (λ low. option-both (root-at s root) (refused RootEmpty) (λ k. handed m k) Does
-                (λ e. no RootEmpty)
-                (λ k e. bool-both (eqb (node-at m k .encoding) 1) (rows (node-at m k .kind) (node-at m k .len) (startAt (m .nodes) k) (run-of m k)) (refused NotFlat) Does
-                    (λ flat. read-done k e (eqb-true (node-at m k .encoding) 1 flat))
-                    (λ other. no NotFlat)))
-            (λ high. no RootRange)
+        (λ low. option-both (root-at s root) (refused RootEmpty) (λ k. handed m k) Does
+        (λ e. no RootEmpty)
+        (λ k e. bool-both (eqb (node-at m k .encoding) 1) (rows (node-at m k .kind) (node-at m k .len) (startAt (m .nodes) k) (run-of m k)) (refused NotFlat) Does
+        (λ flat. read-done k e (eqb-true (node-at m k .encoding) 1 flat))
+        (λ other. no NotFlat)))
+        (λ high. no RootRange)
 
   -- every call
   pub call-step : (c : Told) → Step ks es s c (called ks s c .0) (called ks s c .1)

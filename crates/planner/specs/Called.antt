@@ -40,8 +40,9 @@ abbrev pub parsed-rows : Kind → ℕ → List ℕ → Option (List Row)
 parsed-rows kd zero bs = Some []
 parsed-rows kd (suc n) bs =
     elim (kd .parsed (take (kd .width) bs)) [
-      None ↦ None
-    | Some r ↦ elim (parsed-rows kd n (drop (kd .width) bs)) [ None ↦ None | Some rs ↦ Some (r ∷ rs) ] ]
+      | None ↦ None
+      | Some r ↦ elim (parsed-rows kd n (drop (kd .width) bs)) [ None ↦ None | Some rs ↦ Some (r ∷ rs) ]
+    ]
 
 -- a kind that exists, and at most 1,024 rows
 abbrev pub in-range : Kinds → ℕ → ℕ → Bool
@@ -62,45 +63,56 @@ placed s root b = elim (b .0) [ Err e ↦ (refused (Pool e), record { memory = b
 abbrev pub made : Kinds → State → ℕ → ℕ → ℕ → List ℕ → Said × State
 made ks s root kind n bytes =
     elim (sized ks kind n bytes) [
-      false ↦ (refused Line, s)
-    | true ↦ elim (ltb root 32) [
-        false ↦ (refused RootRange, s)
-      | true ↦ elim (root-at s root) [
-          Some k ↦ (refused RootTaken, s)
-        | None ↦ elim (rows-made ks kind n bytes) [
-            None ↦ (refused Field, s)
-          | Some rs ↦ placed s root (built ks (s .memory) kind n rs) ] ] ] ]
+      | false ↦ (refused Line, s)
+      | true ↦ elim (ltb root 32) [
+        | false ↦ (refused RootRange, s)
+        | true ↦ elim (root-at s root) [
+          | Some k ↦ (refused RootTaken, s)
+          | None ↦ elim (rows-made ks kind n bytes) [
+            | None ↦ (refused Field, s)
+            | Some rs ↦ placed s root (built ks (s .memory) kind n rs)
+          ]
+        ]
+      ]
+    ]
 
 abbrev pub shared : State → ℕ → ℕ → Said × State
 shared s to from =
     elim (ltb to 32 && ltb from 32) [
-      false ↦ (refused RootRange, s)
-    | true ↦ elim (root-at s from) [
-        None ↦ (refused RootEmpty, s)
-      | Some k ↦ elim (root-at s to) [
-          Some j ↦ (refused RootTaken, s)
-        | None ↦ (done, with-root s (sharing.retained (s .memory) k) to (Some k)) ] ] ]
+      | false ↦ (refused RootRange, s)
+      | true ↦ elim (root-at s from) [
+        | None ↦ (refused RootEmpty, s)
+        | Some k ↦ elim (root-at s to) [
+          | Some j ↦ (refused RootTaken, s)
+          | None ↦ (done, with-root s (sharing.retained (s .memory) k) to (Some k))
+        ]
+      ]
+    ]
 
 abbrev pub emptied : State → ℕ → Said × State
 emptied s root =
     elim (ltb root 32) [
-      false ↦ (refused RootRange, s)
-    | true ↦ elim (root-at s root) [
-        None ↦ (refused RootEmpty, s)
-      | Some k ↦ (done, with-root s (sharing.release (s .memory) k) root None) ] ]
+      | false ↦ (refused RootRange, s)
+      | true ↦ elim (root-at s root) [
+        | None ↦ (refused RootEmpty, s)
+        | Some k ↦ (done, with-root s (sharing.release (s .memory) k) root None)
+      ]
+    ]
 
 -- what a reading of the array at k hands out
 abbrev pub handed : Memory → ℕ → Said
 handed m k =
     elim (eqb (node-at m k .encoding) 1) [
-      true ↦ rows (node-at m k .kind) (node-at m k .len) (startAt (m .nodes) k) (run-of m k)
-    | false ↦ refused NotFlat ]
+      | true ↦ rows (node-at m k .kind) (node-at m k .len) (startAt (m .nodes) k) (run-of m k)
+      | false ↦ refused NotFlat
+    ]
 
 abbrev pub read-out : State → ℕ → Said
 read-out s root =
     elim (ltb root 32) [
-      false ↦ refused RootRange
-    | true ↦ elim (root-at s root) [ None ↦ refused RootEmpty | Some k ↦ handed (s .memory) k ] ]
+      | false ↦ refused RootRange
+      | true ↦ elim (root-at s root) [ None ↦ refused RootEmpty | Some k ↦ handed (s .memory) k ]
+    ]
 
 abbrev pub called : Kinds → State → Told → Said × State
 called ks s (make root kind n bytes) = made ks s root kind n bytes

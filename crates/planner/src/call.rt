@@ -9,13 +9,25 @@ use pool::node::PoolFaultPartialEq;
 pub enum Call<'a> {
     // a Flat array of `len` rows of a kind under a root; its rows as the bytes of a line, none where kind or length
     // is out of range
-    Make { root: u8, kind: u8, len: u16, rows: &'a [u8] },
+    Make {
+        root: u8,
+        kind: u8,
+        len: u16,
+        rows: &'a [u8],
+    },
     // the array under `from` under the root `to` too
-    Share { to: u8, from: u8 },
+    Share {
+        to: u8,
+        from: u8,
+    },
     // the root empty
-    Release { root: u8 },
+    Release {
+        root: u8,
+    },
     // the rows under a root
-    Read { root: u8 },
+    Read {
+        root: u8,
+    },
 }
 
 // Why a call is refused.

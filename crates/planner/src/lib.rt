@@ -1,10 +1,10 @@
 pub mod answer;
 pub mod call;
-pub mod planner;
-pub mod new;
-pub mod make;
-pub mod roots;
-pub mod read;
 pub mod listener;
-pub mod tally;
+pub mod make;
+pub mod new;
+pub mod planner;
+pub mod read;
 pub mod replay;
+pub mod roots;
+pub mod tally;

@@ -67,7 +67,13 @@ fn are_rows<K: RowKinds>(kinds: &K, kind: u8, len: u16, rows: &[u8]) -> bool
 }
 
 // A Flat array of the rows that the bytes stand for.
-fn build<K: RowKinds>(pool: &mut Pool, kinds: &K, kind: u8, len: u16, rows: &[u8]) -> Result<u8, PoolFault>
+fn build<K: RowKinds>(
+    pool: &mut Pool,
+    kinds: &K,
+    kind: u8,
+    len: u16,
+    rows: &[u8],
+) -> Result<u8, PoolFault>
     requires sized { ⌜ length (now pool .nodes .now) ≡ 256 ⌝ ∗ ⌜ length (now pool .words .now) ≡ 8192 ⌝ ∗ ⌜ len ≤ 1024 ⌝ }
     requires bytes { ⌜ length (now rows) ≡ len * K·RowKinds .kinds (now kinds) .kind kind .width ⌝ }
     requires parse { ⌜ isSome (parsed-rows (K·RowKinds .kinds (now kinds) .kind kind) len (now rows)) ≡ true ⌝ }

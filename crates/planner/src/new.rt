@@ -17,14 +17,28 @@ use rows::kinds::RowKinds;
 
 impl<'a, K: RowKinds, E: Encoding, B: Bank, M: Matcher> Planner<'a, K, E, B, M> {
     // A planner over any lent memory, with nothing in use and every root empty.
-    pub fn new(nodes: &'a mut [Node; NODES], words: &'a mut [u32; WORDS], kinds: K, encodings: E, bank: B, matcher: M) -> Planner<'a, K, E, B, M>
+    pub fn new(
+        nodes: &'a mut [Node; NODES],
+        words: &'a mut [u32; WORDS],
+        kinds: K,
+        encodings: E,
+        bank: B,
+        matcher: M,
+    ) -> Planner<'a, K, E, B, M>
         ensures state { λ r. ⌜ state-of r ≡ new-state ⌝ }
         ensures reached { λ r. ⌜ Reached (K·RowKinds .kinds kinds) [] (state-of r) ⌝ }
         ensures kinds { λ r. ⌜ r .kinds ≡ kinds ⌝ }
         ensures encodings { λ r. ⌜ r .encodings ≡ encodings ⌝ }
     {
         let pool = Pool::new(nodes, words);
-        Planner { pool, roots: [None; ROOTS], kinds, encodings, bank, matcher }
+        Planner {
+            pool,
+            roots: [None; ROOTS],
+            kinds,
+            encodings,
+            bank,
+            matcher,
+        }
     }
 
     // The node under a root.

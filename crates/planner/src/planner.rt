@@ -14,7 +14,9 @@ use std::mem::size_of;
 pub const ROOTS: usize = 32;
 
 // The bytes of all tables: nodes, words and roots.
-pub const TABLE_BYTES: usize = NODES * size_of::<Node>() + WORDS * size_of::<u32>() + ROOTS * size_of::<Option<u8>>();
+pub const TABLE_BYTES: usize = NODES * size_of::<Node>()
+    + WORDS * size_of::<u32>()
+    + ROOTS * size_of::<Option<u8>>();
 
 // The bytes of all tables, which fit 64 KiB.
 pub fn table_bytes() -> usize

@@ -39,7 +39,12 @@ impl<K: RowKinds, E: Encoding, B: Bank, M: Matcher> Planner<'_, K, E, B, M> {
             return Err(Refusal::NotFlat);
         }
         let (place, words) = self.pool.read(n);
-        Ok(Reading { kind: node.kind, len: node.len, place, words })
+        Ok(Reading {
+            kind: node.kind,
+            len: node.len,
+            place,
+            words,
+        })
     }
 
     // The roots occupied, and the nodes and words in use.
@@ -55,6 +60,10 @@ impl<K: RowKinds, E: Encoding, B: Bank, M: Matcher> Planner<'_, K, E, B, M> {
                 roots += 1;
             }
         }
-        Usage { roots, nodes: self.pool.nodes_used(), words: self.pool.words_used() }
+        Usage {
+            roots,
+            nodes: self.pool.nodes_used(),
+            words: self.pool.words_used(),
+        }
     }
 }

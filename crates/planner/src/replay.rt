@@ -27,7 +27,12 @@ impl<K: RowKinds, E: Encoding, B: Bank, M: Matcher> Planner<'_, K, E, B, M> {
         ensures encodings { λ _. ⌜ now (self .exit) .encodings ≡ now (self .entry) .encodings ⌝ }
     {
         match call {
-            Call::Make { root, kind, len, rows } => {
+            Call::Make {
+                root,
+                kind,
+                len,
+                rows,
+            } => {
                 let result = self.make(root, kind, len, rows);
                 listener.hear(answer(result));
             }
@@ -48,7 +53,22 @@ impl<K: RowKinds, E: Encoding, B: Bank, M: Matcher> Planner<'_, K, E, B, M> {
 }
 
 // Plays a list of calls on a new planner, and hands each answer to a listener.
-pub fn replay<K: RowKinds + Drop, E: Encoding + Drop, B: Bank + Drop, M: Matcher + Drop, L: Listener>(nodes: &mut [Node; NODES], words: &mut [u32; WORDS], kinds: K, encodings: E, bank: B, matcher: M, calls: &[Call], listener: &mut L)
+pub fn replay<
+    K: RowKinds + Drop,
+    E: Encoding + Drop,
+    B: Bank + Drop,
+    M: Matcher + Drop,
+    L: Listener,
+>(
+    nodes: &mut [Node; NODES],
+    words: &mut [u32; WORDS],
+    kinds: K,
+    encodings: E,
+    bank: B,
+    matcher: M,
+    calls: &[Call],
+    listener: &mut L,
+)
     ensures heard { λ _. ⌜ ((before : List Said) → L·Listener .hears (now (listener .entry)) before → L·Listener .hears (now (listener .exit)) (before ++ answers (played (K·RowKinds .kinds kinds) [] (map told (now (calls .entry)))))) ⌝ }
     ensures law { λ _. ⌜ Law (K·RowKinds .kinds kinds) (E·Encoding .means encodings (K·RowKinds .kinds kinds)) (played (K·RowKinds .kinds kinds) [] (map told (now (calls .entry)))) ⌝ }
 {

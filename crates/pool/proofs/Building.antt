@@ -44,12 +44,12 @@ room-clear m hs w s o room =
     let fits = room .inside in
     let long : length (part (m .words) s w) ≡ w = length-take-le w (drop s (m .words)) (omega (arith, length-drop s (m .words))) in
     ext-getD 0 (part (m .words) s w) (replicate w 0) (long ∙ sym (length-replicate w 0))
-        (λ k l.
-            let b : k < w = omega arith in
-            getD-take w (drop s (m .words)) k 0 b
-            ∙ getD-drop s (m .words) k 0
-            ∙ o .cleared (s + k) (λ j p q. room .clear j (s + k) (omega arith) (omega arith) p q)
-            ∙ sym (getD-replicate w k 0 0 b))
+    (λ k l.
+    let b : k < w = omega arith in
+    getD-take w (drop s (m .words)) k 0 b
+    ∙ getD-drop s (m .words) k 0
+    ∙ o .cleared (s + k) (λ j p q. room .clear j (s + k) (omega arith) (omega arith) p q)
+    ∙ sym (getD-replicate w k 0 0 b))
 
 -- what a build gives: a node that was free is a Flat array of these rows, and what others hold is as it was
 pub record Built (ks : Kinds) (m q : Memory) (hs : List ℕ) (kind n : ℕ) (rs : List Row) (i : ℕ) : Type 0 where
@@ -104,8 +104,8 @@ module _ (ks : Kinds) (m : Memory) (hs : List ℕ) (kind n : ℕ) (rs : List Row
         let w : ℕ = ks .kind kind .words n in
         ap (λ (q : Memory). finished q i) appended-is
         ∙ ap (λ (ns : List Node). record { nodes = ns; words = overwritten (m .words) s w run-built })
-            (ap (λ (x : Node). set (set (m .nodes) i (open-node kind n s w)) i (with-encoding x 1)) opened-node
-             ∙ set-set (m .nodes) i (open-node kind n s w) (flat-node kind n s w))
+        (ap (λ (x : Node). set (set (m .nodes) i (open-node kind n s w)) i (with-encoding x 1)) opened-node
+        ∙ set-set (m .nodes) i (open-node kind n s w) (flat-node kind n s w))
 
     rows-built : rows (ks .kind kind) n run-built ≡ rs
     unfolding run-built
@@ -122,21 +122,21 @@ module _ (ks : Kinds) (m : Memory) (hs : List ℕ) (kind n : ℕ) (rs : List Row
         let nd : Node = flat-node kind n s w in
         let e : getD (set (m .nodes) i nd) i blank ≡ nd = getD-set-same (m .nodes) i nd blank inside in
         let run : part (overwritten (m .words) s w run-built) (startAt (set (m .nodes) i nd) i) (runAt (set (m .nodes) i nd) i) ≡ run-built
-            = ap (λ (x : Node). part (overwritten (m .words) s w run-built) (x .start) (x .run)) e ∙ over-part (m .words) s w run-built (room .inside) long in
+        = ap (λ (x : Node). part (overwritten (m .words) s w run-built) (x .start) (x .run)) e ∙ over-part (m .words) s w run-built (room .inside) long in
         record {
-            fresh = free;
-            change = placed-change m hs i s w nd run-built o inside free room refl refl refl refl refl long;
-            encoding-is = ap (λ (x : Node). x .encoding) e;
-            kind-is = ap (λ (x : Node). x .kind) e;
-            len-is = ap (λ (x : Node). x .len) e;
-            parameter-is = ap (λ (x : Node). x .parameter) e;
-            arity-is = ap (λ (x : Node). x .arity) e;
-            slots-is = ap (λ (x : Node). x .slots) e;
-            height-is = ap (λ (x : Node). x .height) e;
-            count-is = ap (λ (x : Node). x .count) e;
-            run-is = ap (λ (x : Node). x .run) e;
-            rows-is = ap (λ (l : List ℕ). rows (ks .kind kind) n l) run ∙ rows-built;
-            tidy-is = ap (λ (l : List ℕ). ks .kind kind .tidy n l) run ∙ tidy-built
+          fresh = free;
+          change = placed-change m hs i s w nd run-built o inside free room refl refl refl refl refl long;
+          encoding-is = ap (λ (x : Node). x .encoding) e;
+          kind-is = ap (λ (x : Node). x .kind) e;
+          len-is = ap (λ (x : Node). x .len) e;
+          parameter-is = ap (λ (x : Node). x .parameter) e;
+          arity-is = ap (λ (x : Node). x .arity) e;
+          slots-is = ap (λ (x : Node). x .slots) e;
+          height-is = ap (λ (x : Node). x .height) e;
+          count-is = ap (λ (x : Node). x .count) e;
+          run-is = ap (λ (x : Node). x .run) e;
+          rows-is = ap (λ (l : List ℕ). rows (ks .kind kind) n l) run ∙ rows-built;
+          tidy-is = ap (λ (l : List ℕ). ks .kind kind .tidy n l) run ∙ tidy-built;
         }
 
     built-at : Built ks m (finished (append-rows ks (put-node m i (open-node kind n s (ks .kind kind .words n))) i 0 rs) i) hs kind n rs i
@@ -152,8 +152,9 @@ Outcome ks m hs kind n rs (Ok i) q = Built ks m q hs kind n rs i
 abbrev found : Kinds → Memory → ℕ → ℕ → List Row → Option ℕ → Option ℕ → Result ℕ PoolFault × Memory
 found ks m kind n rs f r =
     let o : Result ℕ PoolFault × Memory = elim f [
-          None ↦ (Err Nodes, m)
-        | Some i ↦ elim r [ None ↦ (Err Words, m) | Some s ↦ (Ok i, put-node m i (open-node kind n s (ks .kind kind .words n))) ] ] in
+      | None ↦ (Err Nodes, m)
+      | Some i ↦ elim r [ None ↦ (Err Words, m) | Some s ↦ (Ok i, put-node m i (open-node kind n s (ks .kind kind .words n))) ]
+    ] in
     elim (o .0) [ Err e ↦ (Err e, o .1) | Ok i ↦ (Ok i, finished (append-rows ks (o .1) i 0 rs) i) ]
 
 pub built-is : (ks : Kinds) (m : Memory) (hs : List ℕ) (kind n : ℕ) (rs : List Row) → LawfulKind (ks .kind kind) → Ordered m hs → length rs ≡ n → Taken (ks .kind kind) rs

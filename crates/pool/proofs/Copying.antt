@@ -30,9 +30,9 @@ use Rattle.pool.proofs.Found.{lowest-free-is}
 pub recount-cases : (ns : List Node) (n c : ℕ) → n < length ns → (k : ℕ) → ((k ≡ n) × (countAt (recount ns n c) k ≡ c)) ⊎ ((k ≡ n → ⊥) × (countAt (recount ns n c) k ≡ countAt ns k))
 recount-cases ns n c h k =
     ⊎-elim
-        (λ q. inl (q .0, ap (λ (x : Node). x .count) (q .1)))
-        (λ q. inr (q .0, ap (λ (x : Node). x .count) (q .1)))
-        (set-cases ns n (with-count (getD ns n blank) c) h k)
+    (λ q. inl (q .0, ap (λ (x : Node). x .count) (q .1)))
+    (λ q. inr (q .0, ap (λ (x : Node). x .count) (q .1)))
+    (set-cases ns n (with-count (getD ns n blank) c) h k)
 
 -- all that the slots name is in use
 abbrev pub Used : List Node → List (Option ℕ) → Type 0
@@ -43,9 +43,9 @@ pub retained-more : (m : Memory) (n k : ℕ) → 0 < countAt (m .nodes) n → (c
 retained-more m n k u =
     let c : ℕ = countAt (m .nodes) n + 1 in
     ⊎-elim
-        (λ q. let e = ap (λ (j : ℕ). countAt (m .nodes) j) (q .0) in (omega (arith, q .1, e), omega (arith, q .1, e)))
-        (λ q. (omega (arith, q .1), omega (arith, q .1)))
-        (recount-cases (m .nodes) n c (in-range (m .nodes) n u) k)
+    (λ q. let e = ap (λ (j : ℕ). countAt (m .nodes) j) (q .0) in (omega (arith, q .1, e), omega (arith, q .1, e)))
+    (λ q. (omega (arith, q .1), omega (arith, q .1)))
+    (recount-cases (m .nodes) n c (in-range (m .nodes) n u) k)
 
 pub used-more : (m : Memory) (c : ℕ) (ss : List (Option ℕ)) → Used (m .nodes) (Some c ∷ ss) → Used (retained m c .nodes) ss
 used-more m c ss u d h = omega (arith, u d (omega arith), retained-more m c d (u c (times-here c (names ss))) .0)
@@ -64,12 +64,12 @@ all-retained m (Some c ∷ ss) u =
     let q : Memory = each-slot retained b ss in
     let r = all-retained b ss (used-more m c ss u) in
     record {
-        spared = spared-trans m b (recount-spared m c (countAt (m .nodes) c + 1) v (omega arith)) q (r .spared);
-        counts = λ hs s.
-            counts-like (q .nodes) (names ss ++ (c ∷ hs)) (c ∷ (names ss ++ hs))
-                (λ k. omega (arith, times-append k (names ss) (c ∷ hs), times-append k (names ss) hs))
-                (r .counts (c ∷ hs) (more-counts (m .nodes) c hs v s));
-        more = λ k. omega (arith, r .more k, retained-more m c k v .0)
+      spared = spared-trans m b (recount-spared m c (countAt (m .nodes) c + 1) v (omega arith)) q (r .spared);
+      counts = λ hs s.
+          counts-like (q .nodes) (names ss ++ (c ∷ hs)) (c ∷ (names ss ++ hs))
+          (λ k. omega (arith, times-append k (names ss) (c ∷ hs), times-append k (names ss) hs))
+          (r .counts (c ∷ hs) (more-counts (m .nodes) c hs v s));
+      more = λ k. omega (arith, r .more k, retained-more m c k v .0);
     }
 
 -- ---- the loop of `retain_slots`
@@ -84,17 +84,17 @@ retaining-none entry m all rest left r = record { used = r .used; room = λ k. o
 pub retaining-some : (entry m : Memory) (all rest : List (Option ℕ)) (left c : ℕ) → Retaining entry m all (Some c ∷ rest) (suc left) → Retaining entry (retained m c) all rest left
 retaining-some entry m all rest left c r =
     record {
-        used = used-more m c rest (r .used);
-        room = λ k. omega (arith, r .room k, retained-more m c k (r .used c (times-here c (names rest))) .1);
-        gives = r .gives
+      used = used-more m c rest (r .used);
+      room = λ k. omega (arith, r .room k, retained-more m c k (r .used c (times-here c (names rest))) .1);
+      gives = r .gives;
     }
 
 -- ---- nodes as they were, step by step
 pub same-trans : (m q r : Memory) (k : ℕ) → SameAt m q k → SameAt q r k → SameAt m r k
 same-trans m q r k s t =
     record {
-        same-node = t .same-node ∙ ap (λ (x : Node). with-count x (countAt (r .nodes) k)) (s .same-node);
-        same-run = t .same-run ∙ s .same-run
+      same-node = t .same-node ∙ ap (λ (x : Node). with-count x (countAt (r .nodes) k)) (s .same-node);
+      same-run = t .same-run ∙ s .same-run;
     }
 
 -- what is reached from a node in use is in use
@@ -138,51 +138,61 @@ module _ (m : Memory) (n : ℕ) (nd : Node) (s : Settles m n nd) where
   pub settled-others : (k : ℕ) → (k ≡ n → ⊥) → SameAt m (put-node m n nd) k
   settled-others k ne =
       ⊎-elim
-          (λ q. absurd (ne (q .0)))
-          (λ q. record {
-              same-node = q .1 ∙ ap (λ (c : ℕ). with-count (node-at m k) c) (sym (ap (λ (x : Node). x .count) (q .1)));
-              same-run = ap (λ (x : Node). part (m .words) (x .start) (x .run)) (q .1)
-          })
-          (at-place k)
+      (λ q. absurd (ne (q .0)))
+      (λ q. record {
+        same-node = q .1 ∙ ap (λ (c : ℕ). with-count (node-at m k) c) (sym (ap (λ (x : Node). x .count) (q .1)));
+        same-run = ap (λ (x : Node). part (m .words) (x .start) (x .run)) (q .1);
+      })
+      (at-place k)
 
   as-tall : (ss : List (Option ℕ)) → times n (names ss) ≡ 0 → tallest (set (m .nodes) n nd) ss ≡ tallest (m .nodes) ss
   as-tall ss none =
       tallest-same (m .nodes) (set (m .nodes) n nd) ss
-          (λ c h.
-              ⊎-elim
-                  (λ q. absurd (omega (arith, h, none, ap (λ (j : ℕ). times j (names ss)) (q .0))))
-                  (λ q. ap (λ (x : Node). x .height) (q .1))
-                  (at-place c))
+      (λ c h.
+      ⊎-elim
+      (λ q. absurd (omega (arith, h, none, ap (λ (j : ℕ). times j (names ss)) (q .0))))
+      (λ q. ap (λ (x : Node). x .height) (q .1))
+      (at-place c))
 
   settled-heights : Heights (m .nodes) → Heights (set (m .nodes) n nd)
   settled-heights heights k u =
       ⊎-elim
-          (λ q.
-              omega (arith, s .high, as-tall (nd .slots) (s .fresh), ap (λ (x : Node). x .height) (q .1),
-                  ap (λ (x : Node). tallest (set (m .nodes) n nd) (x .slots)) (q .1)))
-          (λ q.
-              let v : 0 < countAt (m .nodes) k = omega (arith, u, ap (λ (x : Node). x .count) (q .1)) in
-              let none : times n (names (slotsAt (m .nodes) k)) ≡ 0 = omega (arith, s .unnamed, named-at n (m .nodes) k, names-used n (node-at m k) v) in
-              omega (arith, heights k v, as-tall (slotsAt (m .nodes) k) none, ap (λ (x : Node). x .height) (q .1),
-                  ap (λ (x : Node). tallest (set (m .nodes) n nd) (x .slots)) (q .1)))
-          (at-place k)
+      (λ q.
+      omega (
+        arith,
+        s .high,
+        as-tall (nd .slots) (s .fresh),
+        ap (λ (x : Node). x .height) (q .1),
+        ap (λ (x : Node). tallest (set (m .nodes) n nd) (x .slots)) (q .1),
+      ))
+      (λ q.
+      let v : 0 < countAt (m .nodes) k = omega (arith, u, ap (λ (x : Node). x .count) (q .1)) in
+      let none : times n (names (slotsAt (m .nodes) k)) ≡ 0 = omega (arith, s .unnamed, named-at n (m .nodes) k, names-used n (node-at m k) v) in
+      omega (
+        arith,
+        heights k v,
+        as-tall (slotsAt (m .nodes) k) none,
+        ap (λ (x : Node). x .height) (q .1),
+        ap (λ (x : Node). tallest (set (m .nodes) n nd) (x .slots)) (q .1),
+      ))
+      (at-place k)
 
   -- where a run starts and how long it is: n had none, and has none
   runs : (k : ℕ) → (runAt (set (m .nodes) n nd) k ≡ runAt (m .nodes) k) × (0 < runAt (m .nodes) k → startAt (set (m .nodes) n nd) k ≡ startAt (m .nodes) k)
   runs k =
       ⊎-elim
-          (λ q.
-              let r = ap (λ (j : ℕ). runAt (m .nodes) j) (q .0) in
-              (omega (arith, s .bare, s .no-run, r, ap (λ (x : Node). x .run) (q .1)), λ h. absurd (omega (arith, h, r, s .bare))))
-          (λ q. (ap (λ (x : Node). x .run) (q .1), λ h. ap (λ (x : Node). x .start) (q .1)))
-          (at-place k)
+      (λ q.
+      let r = ap (λ (j : ℕ). runAt (m .nodes) j) (q .0) in
+      (omega (arith, s .bare, s .no-run, r, ap (λ (x : Node). x .run) (q .1)), λ h. absurd (omega (arith, h, r, s .bare))))
+      (λ q. (ap (λ (x : Node). x .run) (q .1), λ h. ap (λ (x : Node). x .start) (q .1)))
+      (at-place k)
 
   settled-within : Within (m .nodes) (m .words) → Within (set (m .nodes) n nd) (m .words)
   settled-within w k =
       ⊎-elim
-          (λ q. omega (arith, s .start, s .no-run, ap (λ (x : Node). x .start) (q .1), ap (λ (x : Node). x .run) (q .1)))
-          (λ q. omega (arith, w k, ap (λ (x : Node). x .start) (q .1), ap (λ (x : Node). x .run) (q .1)))
-          (at-place k)
+      (λ q. omega (arith, s .start, s .no-run, ap (λ (x : Node). x .start) (q .1), ap (λ (x : Node). x .run) (q .1)))
+      (λ q. omega (arith, w k, ap (λ (x : Node). x .start) (q .1), ap (λ (x : Node). x .run) (q .1)))
+      (at-place k)
 
   settled-apart : Apart (m .nodes) → Apart (set (m .nodes) n nd)
   settled-apart p j k ne a b l =
@@ -195,42 +205,42 @@ module _ (m : Memory) (n : ℕ) (nd : Node) (s : Settles m n nd) where
   settled-slotless : Slotless (m .nodes) → Slotless (set (m .nodes) n nd)
   settled-slotless p k c r =
       ⊎-elim
-          (λ q. absurd (omega (arith, r, s .no-run, ap (λ (x : Node). x .run) (q .1))))
-          (λ q. ap (λ (x : Node). times c (names (x .slots))) (q .1) ∙ p k c (omega (arith, r, ap (λ (x : Node). x .run) (q .1))))
-          (at-place k)
+      (λ q. absurd (omega (arith, r, s .no-run, ap (λ (x : Node). x .run) (q .1))))
+      (λ q. ap (λ (x : Node). times c (names (x .slots))) (q .1) ∙ p k c (omega (arith, r, ap (λ (x : Node). x .run) (q .1))))
+      (at-place k)
 
   settled-freed : Freed (m .nodes) → Freed (set (m .nodes) n nd)
   settled-freed p k l z =
       ⊎-elim
-          (λ q. absurd (omega (arith, z, s .one, ap (λ (x : Node). x .count) (q .1))))
-          (λ q. q .1 ∙ p k (omega (arith, l, length-set (m .nodes) n nd)) (omega (arith, z, ap (λ (x : Node). x .count) (q .1))))
-          (at-place k)
+      (λ q. absurd (omega (arith, z, s .one, ap (λ (x : Node). x .count) (q .1))))
+      (λ q. q .1 ∙ p k (omega (arith, l, length-set (m .nodes) n nd)) (omega (arith, z, ap (λ (x : Node). x .count) (q .1))))
+      (at-place k)
 
   settled-cleared : Cleared (m .nodes) (m .words) → Cleared (set (m .nodes) n nd) (m .words)
   settled-cleared p x none =
       p x (λ k a b.
-          let r = runs k in
-          let h : 0 < runAt (m .nodes) k = omega arith in
-          none k (omega (arith, a, r .1 h)) (omega (arith, b, r .0, r .1 h)))
+      let r = runs k in
+      let h : 0 < runAt (m .nodes) k = omega arith in
+      none k (omega (arith, a, r .1 h)) (omega (arith, b, r .0, r .1 h)))
 
   pub settled-ordered : (old new : List ℕ) → Ordered m old → Counts (set (m .nodes) n nd) new → Ordered (put-node m n nd) new
   settled-ordered old new o counts =
       record {
-          nodes-long = length-set (m .nodes) n nd ∙ o .nodes-long;
-          words-long = o .words-long;
-          counts = counts;
-          heights = settled-heights (o .heights);
-          low = λ k. ⊎-elim (λ q. omega (arith, s .low, ap (λ (x : Node). x .height) (q .1))) (λ q. omega (arith, o .low k, ap (λ (x : Node). x .height) (q .1))) (at-place k);
-          eight = λ k l.
-              ⊎-elim
-                  (λ q. ap (λ (x : Node). length (x .slots)) (q .1) ∙ s .eight)
-                  (λ q. ap (λ (x : Node). length (x .slots)) (q .1) ∙ o .eight k (omega (arith, l, length-set (m .nodes) n nd)))
-                  (at-place k);
-          within = settled-within (o .within);
-          apart = settled-apart (o .apart);
-          slotless = settled-slotless (o .slotless);
-          freed = settled-freed (o .freed);
-          cleared = settled-cleared (o .cleared)
+        nodes-long = length-set (m .nodes) n nd ∙ o .nodes-long;
+        words-long = o .words-long;
+        counts = counts;
+        heights = settled-heights (o .heights);
+        low = λ k. ⊎-elim (λ q. omega (arith, s .low, ap (λ (x : Node). x .height) (q .1))) (λ q. omega (arith, o .low k, ap (λ (x : Node). x .height) (q .1))) (at-place k);
+        eight = λ k l.
+            ⊎-elim
+            (λ q. ap (λ (x : Node). length (x .slots)) (q .1) ∙ s .eight)
+            (λ q. ap (λ (x : Node). length (x .slots)) (q .1) ∙ o .eight k (omega (arith, l, length-set (m .nodes) n nd)))
+            (at-place k);
+        within = settled-within (o .within);
+        apart = settled-apart (o .apart);
+        slotless = settled-slotless (o .slotless);
+        freed = settled-freed (o .freed);
+        cleared = settled-cleared (o .cleared);
       }
 
 -- ---- the node for a holder who is to change it
@@ -258,13 +268,13 @@ module _ (m : Memory) (p : ℕ) (hs : List ℕ) (o : Ordered m (p ∷ hs)) where
   alone : countAt (m .nodes) p ≡ 1 → Owned m m p hs p
   alone e =
       record {
-          ordered = o;
-          node = ap (λ (c : ℕ). with-count (node-at m p) c) e;
-          others = λ k u ne. record { same-node = refl; same-run = refl };
-          unnamed = omega (arith, e, o .counts p, times-here p hs);
-          unheld = omega (arith, e, o .counts p, times-here p []);
-          own = λ h. refl;
-          copy = λ h. absurd (omega arith)
+        ordered = o;
+        node = ap (λ (c : ℕ). with-count (node-at m p) c) e;
+        others = λ k u ne. record { same-node = refl; same-run = refl };
+        unnamed = omega (arith, e, o .counts p, times-here p hs);
+        unheld = omega (arith, e, o .counts p, times-here p []);
+        own = λ h. refl;
+        copy = λ h. absurd (omega arith);
       }
 
 -- p without the holder, its slots retained
@@ -278,9 +288,9 @@ copied m p i = put-node (spread m p) i (with-count (node-at m p) 1)
 pub less-slots : (m : Memory) (p : ℕ) (hs : List ℕ) → Counts (m .nodes) (p ∷ hs) → 1 < countAt (m .nodes) p → Used (recounted m p (countAt (m .nodes) p - 1) .nodes) (slotsAt (m .nodes) p)
 less-slots m p hs counts shared c h =
     ⊎-elim
-        (λ q. omega (arith, q .1))
-        (λ q. omega (arith, q .1, named-used (m .nodes) (p ∷ hs) counts p c (owed-used (m .nodes) p hs counts) h))
-        (recount-cases (m .nodes) p (countAt (m .nodes) p - 1) (owed-in (m .nodes) p hs counts) c)
+    (λ q. omega (arith, q .1))
+    (λ q. omega (arith, q .1, named-used (m .nodes) (p ∷ hs) counts p c (owed-used (m .nodes) p hs counts) h))
+    (recount-cases (m .nodes) p (countAt (m .nodes) p - 1) (owed-in (m .nodes) p hs counts) c)
 
 pub spread-long : (m : Memory) (p : ℕ) (hs : List ℕ) → Counts (m .nodes) (p ∷ hs) → 1 < countAt (m .nodes) p → length (spread m p .nodes) ≡ length (m .nodes)
 spread-long m p hs counts shared =
@@ -307,9 +317,9 @@ module _ (m : Memory) (p : ℕ) (hs : List ℕ) (o : Ordered m (p ∷ hs)) (shar
   spread-used : (k : ℕ) → 0 < countAt (m .nodes) k → 0 < countAt (spread m p .nodes) k
   spread-used k u =
       ⊎-elim
-          (λ q. omega (arith, q .1, all .more k))
-          (λ q. omega (arith, q .1, all .more k, u))
-          (recount-cases (m .nodes) p (countAt (m .nodes) p - 1) (owed-in (m .nodes) p hs (o .counts)) k)
+      (λ q. omega (arith, q .1, all .more k))
+      (λ q. omega (arith, q .1, all .more k, u))
+      (recount-cases (m .nodes) p (countAt (m .nodes) p - 1) (owed-in (m .nodes) p hs (o .counts)) k)
 
   spread-same : (k : ℕ) → 0 < countAt (m .nodes) k → SameAt m (spread m p) k
   spread-same k u = spared-same m (spread m p) spread-spared (o .apart) k (spread-used k u)
@@ -330,18 +340,18 @@ module _ (m : Memory) (p : ℕ) (hs : List ℕ) (o : Ordered m (p ∷ hs)) (shar
         let ss : List (Option ℕ) = slotsAt (m .nodes) p in
         let c = spread-counts i in
         let tall : tallest (spread m p .nodes) ss ≡ tallest (m .nodes) ss
-            = tallest-same (m .nodes) (spread m p .nodes) ss (λ k h. ap (λ (x : Node). x .height) (spread-same k (slots-used m p hs o k h) .same-node)) in
+        = tallest-same (m .nodes) (spread m p .nodes) ss (λ k h. ap (λ (x : Node). x .height) (spread-same k (slots-used m p hs o k h) .same-node)) in
         record {
-            inside = spread-in;
-            unnamed = omega (arith, c, spread-free);
-            bare = ap (λ (x : Node). x .run) (spread-ordered .freed i spread-in spread-free);
-            no-run = bare;
-            start = omega (arith, o .within p, spread-spared .words-long);
-            one = refl;
-            eight = o .eight p (owed-in (m .nodes) p hs (o .counts));
-            fresh = omega (arith, c, spread-free, times-append i (names ss) hs);
-            high = omega (arith, tall, o .heights p (omega arith));
-            low = o .low p
+          inside = spread-in;
+          unnamed = omega (arith, c, spread-free);
+          bare = ap (λ (x : Node). x .run) (spread-ordered .freed i spread-in spread-free);
+          no-run = bare;
+          start = omega (arith, o .within p, spread-spared .words-long);
+          one = refl;
+          eight = o .eight p (owed-in (m .nodes) p hs (o .counts));
+          fresh = omega (arith, c, spread-free, times-append i (names ss) hs);
+          high = omega (arith, tall, o .heights p (omega arith));
+          low = o .low p;
         }
 
     copy-counts : Counts (copied m p i .nodes) (i ∷ hs)
@@ -350,19 +360,19 @@ module _ (m : Memory) (p : ℕ) (hs : List ℕ) (o : Ordered m (p ∷ hs)) (shar
         let ss : List (Option ℕ) = slotsAt (m .nodes) p in
         let ns : List Node = spread m p .nodes in
         put-counts ns i nd (names ss ++ hs) (i ∷ hs) spread-in spread-counts
-            (λ k h e. omega (arith, spread-free, times-append k (names ss) hs, names-free k (getD ns i blank) spread-free, names-used k nd (omega arith)))
-            (λ k h. omega (arith, times-append k (names ss) hs, names-free k (getD ns i blank) spread-free, names-used k nd (omega arith)))
+        (λ k h e. omega (arith, spread-free, times-append k (names ss) hs, names-free k (getD ns i blank) spread-free, names-used k nd (omega arith)))
+        (λ k h. omega (arith, times-append k (names ss) hs, names-free k (getD ns i blank) spread-free, names-used k nd (omega arith)))
 
     pub copy-owned : LowestNode (m .nodes) (Some i) → Owned m (copied m p i) p hs i
     copy-owned lowest =
         record {
-            ordered = settled-ordered (spread m p) i (with-count (node-at m p) 1) copy-settles (names (slotsAt (m .nodes) p) ++ hs) (i ∷ hs) spread-ordered copy-counts;
-            node = getD-set-same (spread m p .nodes) i (with-count (node-at m p) 1) blank spread-in;
-            others = λ k u ne. same-trans m (spread m p) (copied m p i) k (spread-same k u) (settled-others (spread m p) i (with-count (node-at m p) 1) copy-settles k ne);
-            unnamed = omega (arith, o .counts i, free);
-            unheld = omega (arith, o .counts i, free);
-            own = λ e. absurd (omega arith);
-            copy = λ h. lowest
+          ordered = settled-ordered (spread m p) i (with-count (node-at m p) 1) copy-settles (names (slotsAt (m .nodes) p) ++ hs) (i ∷ hs) spread-ordered copy-counts;
+          node = getD-set-same (spread m p .nodes) i (with-count (node-at m p) 1) blank spread-in;
+          others = λ k u ne. same-trans m (spread m p) (copied m p i) k (spread-same k u) (settled-others (spread m p) i (with-count (node-at m p) 1) copy-settles k ne);
+          unnamed = omega (arith, o .counts i, free);
+          unheld = omega (arith, o .counts i, free);
+          own = λ e. absurd (omega arith);
+          copy = λ h. lowest;
         }
 
 -- ---- what `owned` gives

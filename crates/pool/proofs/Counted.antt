@@ -75,9 +75,9 @@ named-used ns hs counts k c u h = omega (arith, counts c, named-at c ns k, names
 pub set-cases : (ns : List Node) (n : ℕ) (nd : Node) → n < length ns → (k : ℕ) → ((k ≡ n) × (getD (set ns n nd) k blank ≡ nd)) ⊎ ((k ≡ n → ⊥) × (getD (set ns n nd) k blank ≡ getD ns k blank))
 set-cases ns n nd h k =
     ⊎-elim
-        (λ (q : k ≡ n). inl (q, ap (λ (j : ℕ). getD (set ns n nd) j blank) q ∙ getD-set-same ns n nd blank h))
-        (λ (q : k ≡ n → ⊥). inr (q, getD-set-other ns n k nd blank q))
-        (cases-eq k n)
+    (λ (q : k ≡ n). inl (q, ap (λ (j : ℕ). getD (set ns n nd) j blank) q ∙ getD-set-same ns n nd blank h))
+    (λ (q : k ≡ n → ⊥). inr (q, getD-set-other ns n k nd blank q))
+    (cases-eq k n)
 
 -- The balance at k: what is counted and what counts, before and after.
 abbrev pub Balance : List Node → ℕ → Node → List ℕ → List ℕ → ℕ → ℕ → Type 0
@@ -90,9 +90,9 @@ pub put-counts : (ns : List Node) (n : ℕ) (nd : Node) (hs hs′ : List ℕ) �
 put-counts ns n nd hs hs′ h counts at-n others k =
     let s = named-set k ns n nd h in
     ⊎-elim
-        (λ q. omega (arith, s, counts k, ap (λ (x : Node). x .count) (q .1), at-n k (hit-same n k (sym (q .0))) (ap (λ (j : ℕ). countAt ns j) (q .0))))
-        (λ q. omega (arith, s, counts k, ap (λ (x : Node). x .count) (q .1), others k (hit-other n k (λ e. q .0 (sym e)))))
-        (set-cases ns n nd h k)
+    (λ q. omega (arith, s, counts k, ap (λ (x : Node). x .count) (q .1), at-n k (hit-same n k (sym (q .0))) (ap (λ (j : ℕ). countAt ns j) (q .0))))
+    (λ q. omega (arith, s, counts k, ap (λ (x : Node). x .count) (q .1), others k (hit-other n k (λ e. q .0 (sym e)))))
+    (set-cases ns n nd h k)
 
 pub counts-like : (ns : List Node) (hs hs′ : List ℕ) → ((k : ℕ) → times k hs ≡ times k hs′) → Counts ns hs → Counts ns hs′
 counts-like ns hs hs′ e counts k = omega (arith, counts k, e k)
@@ -106,8 +106,8 @@ pub more-counts : (ns : List Node) (n : ℕ) (hs : List ℕ) → 0 < countAt ns 
 more-counts ns n hs u counts =
     let nd : Node = with-count (getD ns n blank) (countAt ns n + 1) in
     put-counts ns n nd hs (n ∷ hs) (in-range ns n u) counts
-        (λ k h e. omega (arith, names-used k (getD ns n blank) u, names-used k nd (omega arith)))
-        (λ k h. omega (arith, names-used k (getD ns n blank) u, names-used k nd (omega arith)))
+    (λ k h e. omega (arith, names-used k (getD ns n blank) u, names-used k nd (omega arith)))
+    (λ k h. omega (arith, names-used k (getD ns n blank) u, names-used k nd (omega arith)))
 
 module _ (ns : List Node) (n : ℕ) (hs : List ℕ) (counts : Counts ns (n ∷ hs)) where
   pub owed-used : 0 < countAt ns n
@@ -121,15 +121,15 @@ module _ (ns : List Node) (n : ℕ) (hs : List ℕ) (counts : Counts ns (n ∷ h
   less-counts c h e =
       let nd : Node = with-count (getD ns n blank) c in
       put-counts ns n nd (n ∷ hs) hs owed-in counts
-          (λ k q d. omega (arith, names-used k (getD ns n blank) owed-used, names-used k nd h))
-          (λ k q. omega (arith, names-used k (getD ns n blank) owed-used, names-used k nd h))
+      (λ k q d. omega (arith, names-used k (getD ns n blank) owed-used, names-used k nd h))
+      (λ k q. omega (arith, names-used k (getD ns n blank) owed-used, names-used k nd h))
 
   -- the last holder less: what the node names is now held in its place
   pub free-counts : countAt ns n ≡ 1 → Counts (set ns n free-node) (names (slotsAt ns n) ++ hs)
   free-counts e =
       put-counts ns n free-node (n ∷ hs) (names (slotsAt ns n) ++ hs) owed-in counts
-          (λ k q d. omega (arith, times-append k (names (slotsAt ns n)) hs, names-used k (getD ns n blank) owed-used, names-free k free-node refl))
-          (λ k q. omega (arith, times-append k (names (slotsAt ns n)) hs, names-used k (getD ns n blank) owed-used, names-free k free-node refl))
+      (λ k q d. omega (arith, times-append k (names (slotsAt ns n)) hs, names-used k (getD ns n blank) owed-used, names-free k free-node refl))
+      (λ k q. omega (arith, times-append k (names (slotsAt ns n)) hs, names-used k (getD ns n blank) owed-used, names-free k free-node refl))
 
 -- ---- heights
 pub tallest-at : (ns : List Node) (ss : List (Option ℕ)) (c : ℕ) → 0 < times c (names ss) → heightAt ns c ≤ tallest ns ss
@@ -137,9 +137,9 @@ tallest-at ns [] c q = absurd (omega arith)
 tallest-at ns (None ∷ ss) c q = tallest-at ns ss c q
 tallest-at ns (Some x ∷ ss) c q =
     ⊎-elim
-        (λ (e : x ≡ c). omega (arith, ap (λ (j : ℕ). heightAt ns j) e))
-        (λ (e : x ≡ c → ⊥). omega (arith, tallest-at ns ss c (omega (arith, hit-other x c e))))
-        (cases-eq x c)
+    (λ (e : x ≡ c). omega (arith, ap (λ (j : ℕ). heightAt ns j) e))
+    (λ (e : x ≡ c → ⊥). omega (arith, tallest-at ns ss c (omega (arith, hit-other x c e))))
+    (cases-eq x c)
 
 pub tallest-same : (a b : List Node) (ss : List (Option ℕ)) → ((c : ℕ) → 0 < times c (names ss) → heightAt b c ≡ heightAt a c) → tallest b ss ≡ tallest a ss
 tallest-same a b [] e = refl
@@ -190,9 +190,9 @@ names-most k (Some c ∷ ss) = omega (arith, names-most k ss, hit-most c k)
 names-of-most : (k : ℕ) (nd : Node) → namesOf k nd ≤ length (nd .slots)
 names-of-most k nd =
     ⊎-elim
-        (λ l. omega (arith, names-used k nd l, names-most k (nd .slots)))
-        (λ l. omega (arith, names-free k nd (omega arith)))
-        (cases-lt 0 (nd .count))
+    (λ l. omega (arith, names-used k nd l, names-most k (nd .slots)))
+    (λ l. omega (arith, names-free k nd (omega arith)))
+    (cases-lt 0 (nd .count))
 
 pub named-most : (k : ℕ) (ns : List Node) → Eight ns → named k ns ≤ 8 * length ns
 named-most k [] e = omega arith

@@ -46,10 +46,12 @@ node-from (nd ∷ ns) b = go (eqb (nd .count) 0) refl (lowest-free ns (b + 1)) (
     next : (o : Option ℕ) → (0 < nd .count) → NodeFrom ns (b + 1) o → NodeFrom (nd ∷ ns) b o
     next None u h = λ k l. elim k as (λ (j : ℕ). j < length (nd ∷ ns) → 0 < countAt (nd ∷ ns) j) [ zero ↦ λ m. u | suc j ↦ λ m. h j (omega arith) ] l
     next (Some i) u h =
-        let e : i - b ≡ suc (i - (b + 1)) = omega arith in
-        (omega arith, omega arith,
-         ap (λ (j : ℕ). countAt (nd ∷ ns) j) e ∙ h .2,
-         λ k l. elim k as (λ (j : ℕ). j < i - b → 0 < countAt (nd ∷ ns) j) [ zero ↦ λ m. u | suc j ↦ λ m. h .3 j (omega arith) ] l)
+        let e : i - b ≡ suc (i - (b + 1)) = omega arith in (
+          omega arith,
+          omega arith,
+          ap (λ (j : ℕ). countAt (nd ∷ ns) j) e ∙ h .2,
+          λ k l. elim k as (λ (j : ℕ). j < i - b → 0 < countAt (nd ∷ ns) j) [ zero ↦ λ m. u | suc j ↦ λ m. h .3 j (omega arith) ] l,
+        )
 
     go : (t : Bool) → eqb (nd .count) 0 ≡ t → (o : Option ℕ) → NodeFrom ns (b + 1) o → NodeFrom (nd ∷ ns) b (elim t [ true ↦ Some b | false ↦ o ])
     go true e o h =
@@ -104,9 +106,9 @@ unfolding after
 used-by [] at n e = absurd (true≢false e)
 used-by (nd ∷ ns) at n e =
     ⊎-elim
-        (λ t. (0, met-parts nd at n t))
-        (λ t. let r = used-by ns at n (sym (ap (after ns at n) t) ∙ e) in (suc (r .0), r .1))
-        (cases-bool (meets nd at n))
+    (λ t. (0, met-parts nd at n t))
+    (λ t. let r = used-by ns at n (sym (ap (after ns at n) t) ∙ e) in (suc (r .0), r .1))
+    (cases-bool (meets nd at n))
 
 -- the search from `at` on, by the test there
 tried : ℕ → List Node → ℕ → ℕ → Bool → Option ℕ

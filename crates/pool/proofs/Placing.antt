@@ -34,7 +34,7 @@ module _ (ws : List ℕ) (s n : ℕ) (xs : List ℕ) (fits : s + n ≤ length ws
   over-over ys =
       let a : take s (overwritten ws s n xs) ≡ take s ws = take-at (take s ws) (xs ++ drop n (drop s ws)) s front in
       let b : drop n (drop s (overwritten ws s n xs)) ≡ drop n (drop s ws)
-          = ap (λ (l : List ℕ). drop n l) (drop-at (take s ws) (xs ++ drop n (drop s ws)) s front) ∙ drop-at xs (drop n (drop s ws)) n whole in
+      = ap (λ (l : List ℕ). drop n l) (drop-at (take s ws) (xs ++ drop n (drop s ws)) s front) ∙ drop-at xs (drop n (drop s ws)) n whole in
       ap₂ (λ (l r : List ℕ). l ++ (ys ++ r)) a b
 
   over-below : (k : ℕ) → k < s → getD (overwritten ws s n xs) k 0 ≡ getD ws k 0
@@ -57,16 +57,16 @@ module _ (ws : List ℕ) (s n : ℕ) (xs : List ℕ) (fits : s + n ≤ length ws
   pub over-apart : (t r : ℕ) → ((k : ℕ) → t ≤ k → k < t + r → s ≤ k → k < s + n → ⊥) → part (overwritten ws s n xs) t r ≡ part ws t r
   over-apart t r out =
       let long : (l : List ℕ) → length (take r (drop t l)) ≡ min r (length l - t)
-          = λ l. length-take r (drop t l) ∙ ap (λ (j : ℕ). min r j) (length-drop t l) in
+      = λ l. length-take r (drop t l) ∙ ap (λ (j : ℕ). min r j) (length-drop t l) in
       let same : length (part (overwritten ws s n xs) t r) ≡ length (part ws t r)
-          = long (overwritten ws s n xs) ∙ ap (λ (j : ℕ). min r (j - t)) over-long ∙ sym (long ws) in
+      = long (overwritten ws s n xs) ∙ ap (λ (j : ℕ). min r (j - t)) over-long ∙ sym (long ws) in
       ext-getD 0 (part (overwritten ws s n xs) t r) (part ws t r) same
-          (λ k l.
-              let b : k < r = omega (arith, l, long (overwritten ws s n xs)) in
-              getD-take r (drop t (overwritten ws s n xs)) k 0 b
-              ∙ getD-drop t (overwritten ws s n xs) k 0
-              ∙ over-other (t + k) (λ p q. out (t + k) (omega arith) (omega arith) p q)
-              ∙ sym (getD-take r (drop t ws) k 0 b ∙ getD-drop t ws k 0))
+      (λ k l.
+      let b : k < r = omega (arith, l, long (overwritten ws s n xs)) in
+      getD-take r (drop t (overwritten ws s n xs)) k 0 b
+      ∙ getD-drop t (overwritten ws s n xs) k 0
+      ∙ over-other (t + k) (λ p q. out (t + k) (omega arith) (omega arith) p q)
+      ∙ sym (getD-take r (drop t ws) k 0 b ∙ getD-drop t ws k 0))
 
 -- the same words in their own place
 pub over-same : (ws : List ℕ) (s n : ℕ) → overwritten ws s n (part ws s n) ≡ ws
@@ -102,9 +102,9 @@ tallest-same ns i nd [] h = refl
 tallest-same ns i nd (None ∷ ss) h = tallest-same ns i nd ss h
 tallest-same ns i nd (Some c ∷ ss) h =
     ⊎-elim
-        (λ (e : c ≡ i). absurd (omega (arith, cond-true {A = ℕ} (eqb c i) 1 0 (eq-eqb c i e))))
-        (λ (e : c ≡ i → ⊥). ap₂ (λ (a b : ℕ). max a b) (ap (λ (x : Node). x .height) (getD-set-other ns i c nd blank e)) (tallest-same ns i nd ss (omega arith)))
-        (cases-eq c i)
+    (λ (e : c ≡ i). absurd (omega (arith, cond-true {A = ℕ} (eqb c i) 1 0 (eq-eqb c i e))))
+    (λ (e : c ≡ i → ⊥). ap₂ (λ (a b : ℕ). max a b) (ap (λ (x : Node). x .height) (getD-set-other ns i c nd blank e)) (tallest-same ns i nd ss (omega arith)))
+    (cases-eq c i)
 
 -- at each place: it is i's, and has the new node, or it is as it was
 abbrev pub Put : List Node → ℕ → Node → ℕ → Type 0
@@ -113,9 +113,9 @@ Put ns i nd k = ((k ≡ i) × (getD (set ns i nd) k blank ≡ nd)) ⊎ ((k ≡ i
 pub put-at : (ns : List Node) (i : ℕ) (nd : Node) → i < length ns → (k : ℕ) → Put ns i nd k
 put-at ns i nd h k =
     ⊎-elim
-        (λ (q : k ≡ i). inl (q, ap (λ (j : ℕ). getD (set ns i nd) j blank) q ∙ getD-set-same ns i nd blank h))
-        (λ (q : k ≡ i → ⊥). inr (q, getD-set-other ns i k nd blank q))
-        (cases-eq k i)
+    (λ (q : k ≡ i). inl (q, ap (λ (j : ℕ). getD (set ns i nd) j blank) q ∙ getD-set-same ns i nd blank h))
+    (λ (q : k ≡ i → ⊥). inr (q, getD-set-other ns i k nd blank q))
+    (cases-eq k i)
 
 abbrev pub placed : Memory → ℕ → ℕ → ℕ → Node → List ℕ → Memory
 placed m i s w nd xs = record { nodes = set (m .nodes) i nd; words = overwritten (m .words) s w xs }
@@ -139,9 +139,9 @@ module _ (m : Memory) (hs : List ℕ) (i s w : ℕ) (nd : Node) (xs : List ℕ)
       let c = names-used k nd (omega arith) ∙ bare-names k in
       let d = o .counts k in
       ⊎-elim
-          (λ q. omega (arith, a, b, c, d, ap (λ (x : Node). x .count) (q .1), ap (λ (j : ℕ). countAt (m .nodes) j) (q .0), cond-true {A = ℕ} (eqb i k) 1 0 (eq-eqb i k (sym (q .0)))))
-          (λ q. omega (arith, a, b, c, d, ap (λ (x : Node). x .count) (q .1), cond-false {A = ℕ} (eqb i k) 1 0 (ne-eqb i k (λ e. q .0 (sym e)))))
-          (at-place k)
+      (λ q. omega (arith, a, b, c, d, ap (λ (x : Node). x .count) (q .1), ap (λ (j : ℕ). countAt (m .nodes) j) (q .0), cond-true {A = ℕ} (eqb i k) 1 0 (eq-eqb i k (sym (q .0)))))
+      (λ q. omega (arith, a, b, c, d, ap (λ (x : Node). x .count) (q .1), cond-false {A = ℕ} (eqb i k) 1 0 (ne-eqb i k (λ e. q .0 (sym e)))))
+      (at-place k)
 
   -- nothing in use names a free node
   not-named : (k : ℕ) → 0 < countAt (m .nodes) k → times i (names (slotsAt (m .nodes) k)) ≡ 0
@@ -150,16 +150,16 @@ module _ (m : Memory) (hs : List ℕ) (i s w : ℕ) (nd : Node) (xs : List ℕ)
   placed-heights : Heights (set (m .nodes) i nd)
   placed-heights k u =
       ⊎-elim
-          (λ q.
-              let a : tallest (set (m .nodes) i nd) (slotsAt (set (m .nodes) i nd) k) ≡ 0
-                  = ap (λ (x : Node). tallest (set (m .nodes) i nd) (x .slots)) (q .1) ∙ ap (λ (ss : List (Option ℕ)). tallest (set (m .nodes) i nd) ss) bare in
-              omega (arith, a, ap (λ (x : Node). x .height) (q .1)))
-          (λ q.
-              let v : 0 < countAt (m .nodes) k = omega (arith, u, ap (λ (x : Node). x .count) (q .1)) in
-              let a : tallest (set (m .nodes) i nd) (slotsAt (set (m .nodes) i nd) k) ≡ tallest (m .nodes) (slotsAt (m .nodes) k)
-                  = ap (λ (x : Node). tallest (set (m .nodes) i nd) (x .slots)) (q .1) ∙ tallest-same (m .nodes) i nd (slotsAt (m .nodes) k) (not-named k v) in
-              omega (arith, a, ap (λ (x : Node). x .height) (q .1), o .heights k v))
-          (at-place k)
+      (λ q.
+      let a : tallest (set (m .nodes) i nd) (slotsAt (set (m .nodes) i nd) k) ≡ 0
+      = ap (λ (x : Node). tallest (set (m .nodes) i nd) (x .slots)) (q .1) ∙ ap (λ (ss : List (Option ℕ)). tallest (set (m .nodes) i nd) ss) bare in
+      omega (arith, a, ap (λ (x : Node). x .height) (q .1)))
+      (λ q.
+      let v : 0 < countAt (m .nodes) k = omega (arith, u, ap (λ (x : Node). x .count) (q .1)) in
+      let a : tallest (set (m .nodes) i nd) (slotsAt (set (m .nodes) i nd) k) ≡ tallest (m .nodes) (slotsAt (m .nodes) k)
+      = ap (λ (x : Node). tallest (set (m .nodes) i nd) (x .slots)) (q .1) ∙ tallest-same (m .nodes) i nd (slotsAt (m .nodes) k) (not-named k v) in
+      omega (arith, a, ap (λ (x : Node). x .height) (q .1), o .heights k v))
+      (at-place k)
 
   placed-low : Low (set (m .nodes) i nd)
   placed-low k =
@@ -168,9 +168,9 @@ module _ (m : Memory) (hs : List ℕ) (i s w : ℕ) (nd : Node) (xs : List ℕ)
   placed-eight : Eight (set (m .nodes) i nd)
   placed-eight k l =
       ⊎-elim
-          (λ q. ap (λ (x : Node). length (x .slots)) (q .1) ∙ ap (λ (ss : List (Option ℕ)). length ss) bare)
-          (λ q. ap (λ (x : Node). length (x .slots)) (q .1) ∙ o .eight k (omega (arith, l, length-set (m .nodes) i nd)))
-          (at-place k)
+      (λ q. ap (λ (x : Node). length (x .slots)) (q .1) ∙ ap (λ (ss : List (Option ℕ)). length ss) bare)
+      (λ q. ap (λ (x : Node). length (x .slots)) (q .1) ∙ o .eight k (omega (arith, l, length-set (m .nodes) i nd)))
+      (at-place k)
 
   new-long : length (overwritten (m .words) s w xs) ≡ length (m .words)
   new-long = over-long (m .words) s w xs (room .inside) whole
@@ -178,9 +178,9 @@ module _ (m : Memory) (hs : List ℕ) (i s w : ℕ) (nd : Node) (xs : List ℕ)
   placed-within : Within (set (m .nodes) i nd) (overwritten (m .words) s w xs)
   placed-within k =
       ⊎-elim
-          (λ q. omega (arith, new-long, room .inside, ap (λ (x : Node). x .start) (q .1), ap (λ (x : Node). x .run) (q .1)))
-          (λ q. omega (arith, new-long, o .within k, ap (λ (x : Node). x .start) (q .1), ap (λ (x : Node). x .run) (q .1)))
-          (at-place k)
+      (λ q. omega (arith, new-long, room .inside, ap (λ (x : Node). x .start) (q .1), ap (λ (x : Node). x .run) (q .1)))
+      (λ q. omega (arith, new-long, o .within k, ap (λ (x : Node). x .start) (q .1), ap (λ (x : Node). x .run) (q .1)))
+      (at-place k)
 
   -- the run that is placed lies apart from every other
   above-new : (k : ℕ) → 0 < runAt (m .nodes) k → s ≤ startAt (m .nodes) k → s + w ≤ startAt (m .nodes) k
@@ -194,44 +194,44 @@ module _ (m : Memory) (hs : List ℕ) (i s w : ℕ) (nd : Node) (xs : List ℕ)
   placed-apart : Apart (set (m .nodes) i nd)
   placed-apart j k ne a b l =
       ⊎-elim
-          (λ p.
-              let pr = ap (λ (x : Node). x .run) (p .1) in
-              let ps = ap (λ (x : Node). x .start) (p .1) in
-              ⊎-elim
-                  (λ q. absurd (ne (p .0 ∙ sym (q .0))))
-                  (λ q.
-                      let qr = ap (λ (x : Node). x .run) (q .1) in
-                      let qs = ap (λ (x : Node). x .start) (q .1) in
-                      omega (arith, above-new k (omega arith) (omega arith)))
-                  (at-place k))
-          (λ p.
-              let pr = ap (λ (x : Node). x .run) (p .1) in
-              let ps = ap (λ (x : Node). x .start) (p .1) in
-              ⊎-elim
-                  (λ q.
-                      let qr = ap (λ (x : Node). x .run) (q .1) in
-                      let qs = ap (λ (x : Node). x .start) (q .1) in
-                      omega (arith, below-new j (omega arith) (omega arith)))
-                  (λ q.
-                      let qr = ap (λ (x : Node). x .run) (q .1) in
-                      let qs = ap (λ (x : Node). x .start) (q .1) in
-                      omega (arith, o .apart j k ne (omega arith) (omega arith) (omega arith)))
-                  (at-place k))
-          (at-place j)
+      (λ p.
+      let pr = ap (λ (x : Node). x .run) (p .1) in
+      let ps = ap (λ (x : Node). x .start) (p .1) in
+      ⊎-elim
+      (λ q. absurd (ne (p .0 ∙ sym (q .0))))
+      (λ q.
+      let qr = ap (λ (x : Node). x .run) (q .1) in
+      let qs = ap (λ (x : Node). x .start) (q .1) in
+      omega (arith, above-new k (omega arith) (omega arith)))
+      (at-place k))
+      (λ p.
+      let pr = ap (λ (x : Node). x .run) (p .1) in
+      let ps = ap (λ (x : Node). x .start) (p .1) in
+      ⊎-elim
+      (λ q.
+      let qr = ap (λ (x : Node). x .run) (q .1) in
+      let qs = ap (λ (x : Node). x .start) (q .1) in
+      omega (arith, below-new j (omega arith) (omega arith)))
+      (λ q.
+      let qr = ap (λ (x : Node). x .run) (q .1) in
+      let qs = ap (λ (x : Node). x .start) (q .1) in
+      omega (arith, o .apart j k ne (omega arith) (omega arith) (omega arith)))
+      (at-place k))
+      (at-place j)
 
   placed-slotless : Slotless (set (m .nodes) i nd)
   placed-slotless k c r =
       ⊎-elim
-          (λ q. ap (λ (x : Node). times c (names (x .slots))) (q .1) ∙ bare-names c)
-          (λ q. ap (λ (x : Node). times c (names (x .slots))) (q .1) ∙ o .slotless k c (omega (arith, r, ap (λ (x : Node). x .run) (q .1))))
-          (at-place k)
+      (λ q. ap (λ (x : Node). times c (names (x .slots))) (q .1) ∙ bare-names c)
+      (λ q. ap (λ (x : Node). times c (names (x .slots))) (q .1) ∙ o .slotless k c (omega (arith, r, ap (λ (x : Node). x .run) (q .1))))
+      (at-place k)
 
   placed-freed : Freed (set (m .nodes) i nd)
   placed-freed k l z =
       ⊎-elim
-          (λ q. absurd (omega (arith, z, ap (λ (x : Node). x .count) (q .1))))
-          (λ q. q .1 ∙ o .freed k (omega (arith, l, length-set (m .nodes) i nd)) (omega (arith, z, ap (λ (x : Node). x .count) (q .1))))
-          (at-place k)
+      (λ q. absurd (omega (arith, z, ap (λ (x : Node). x .count) (q .1))))
+      (λ q. q .1 ∙ o .freed k (omega (arith, l, length-set (m .nodes) i nd)) (omega (arith, z, ap (λ (x : Node). x .count) (q .1))))
+      (at-place k)
 
   placed-cleared : Cleared (set (m .nodes) i nd) (overwritten (m .words) s w xs)
   placed-cleared x none =
@@ -240,43 +240,43 @@ module _ (m : Memory) (hs : List ℕ) (i s w : ℕ) (nd : Node) (xs : List ℕ)
       let hst = ap (λ (y : Node). y .start) here-is in
       over-other (m .words) s w xs (room .inside) whole x (λ a b. none i (omega arith) (omega arith))
       ∙ o .cleared x
-          (λ k a b.
-              ⊎-elim
-                  (λ q. let r = ap (λ (j : ℕ). runAt (m .nodes) j) (q .0) ∙ old-run in omega arith)
-                  (λ q.
-                      let qr = ap (λ (y : Node). y .run) (q .1) in
-                      let qs = ap (λ (y : Node). y .start) (q .1) in
-                      none k (omega arith) (omega arith))
-                  (at-place k))
+      (λ k a b.
+      ⊎-elim
+      (λ q. let r = ap (λ (j : ℕ). runAt (m .nodes) j) (q .0) ∙ old-run in omega arith)
+      (λ q.
+      let qr = ap (λ (y : Node). y .run) (q .1) in
+      let qs = ap (λ (y : Node). y .start) (q .1) in
+      none k (omega arith) (omega arith))
+      (at-place k))
 
   placed-keeps : Keeps m (placed m i s w nd xs) hs
   placed-keeps k h =
       let u = reached-used (m .nodes) hs (o .counts) (h .0) k (h .1) (h .2) in
       ⊎-elim
-          (λ q. absurd (omega (arith, u, free, ap (λ (j : ℕ). countAt (m .nodes) j) (q .0))))
-          (λ q. record {
-              same-node = q .1 ∙ ap (λ (c : ℕ). with-count (getD (m .nodes) k blank) c) (sym (ap (λ (x : Node). x .count) (q .1)));
-              same-run =
-                  ap (λ (x : Node). part (overwritten (m .words) s w xs) (x .start) (x .run)) (q .1)
-                  ∙ over-apart (m .words) s w xs (room .inside) whole (startAt (m .nodes) k) (runAt (m .nodes) k) (λ j a b c d. room .clear k j c d a b)
-          })
-          (at-place k)
+      (λ q. absurd (omega (arith, u, free, ap (λ (j : ℕ). countAt (m .nodes) j) (q .0))))
+      (λ q. record {
+        same-node = q .1 ∙ ap (λ (c : ℕ). with-count (getD (m .nodes) k blank) c) (sym (ap (λ (x : Node). x .count) (q .1)));
+        same-run =
+            ap (λ (x : Node). part (overwritten (m .words) s w xs) (x .start) (x .run)) (q .1)
+            ∙ over-apart (m .words) s w xs (room .inside) whole (startAt (m .nodes) k) (runAt (m .nodes) k) (λ j a b c d. room .clear k j c d a b);
+      })
+      (at-place k)
 
   pub placed-change : Change m (placed m i s w nd xs) (i ∷ hs) hs
   placed-change =
       record {
-          ordered = record {
-              nodes-long = length-set (m .nodes) i nd ∙ o .nodes-long;
-              words-long = new-long ∙ o .words-long;
-              counts = placed-counts;
-              heights = placed-heights;
-              low = placed-low;
-              eight = placed-eight;
-              within = placed-within;
-              apart = placed-apart;
-              slotless = placed-slotless;
-              freed = placed-freed;
-              cleared = placed-cleared
-          };
-          keeps = placed-keeps
+        ordered = record {
+          nodes-long = length-set (m .nodes) i nd ∙ o .nodes-long;
+          words-long = new-long ∙ o .words-long;
+          counts = placed-counts;
+          heights = placed-heights;
+          low = placed-low;
+          eight = placed-eight;
+          within = placed-within;
+          apart = placed-apart;
+          slotless = placed-slotless;
+          freed = placed-freed;
+          cleared = placed-cleared;
+        };
+        keeps = placed-keeps;
       }

@@ -27,13 +27,13 @@ module _ (ns : List Node) (hs : List ℕ) (counts : Counts ns hs) (falling : Fal
   climb zero k l u = absurd (omega (arith, height-top ns k))
   climb (suc d) k l u =
       ⊎-elim
-          (λ h. (k, h, here))
-          (λ h.
-              let j = named-by k ns (omega (arith, counts k)) in
-              let v = names-use k (getD ns (j .0) blank) (j .1) in
-              let up = climb d (j .0) (omega (arith, falling (j .0) k (j .1))) v in
-              (up .0, up .1, step (up .2) k (omega (arith, names-used k (getD ns (j .0) blank) v, j .1))))
-          (cases-lt 0 (times k hs))
+      (λ h. (k, h, here))
+      (λ h.
+      let j = named-by k ns (omega (arith, counts k)) in
+      let v = names-use k (getD ns (j .0) blank) (j .1) in
+      let up = climb d (j .0) (omega (arith, falling (j .0) k (j .1))) v in
+      (up .0, up .1, step (up .2) k (omega (arith, names-used k (getD ns (j .0) blank) v, j .1))))
+      (cases-lt 0 (times k hs))
 
 pub counts-exact : (ns : List Node) (hs : List ℕ) → Counts ns hs → Falling ns → Exact ns hs
 counts-exact ns hs counts falling k = (climb ns hs counts falling (top ns) k (omega arith), held-used ns hs k counts)

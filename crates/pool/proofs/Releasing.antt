@@ -57,8 +57,8 @@ module _ (m : Memory) (n : ℕ) (hs : List ℕ) (s : Sound m (n ∷ hs)) where
       let u = owed-used (m .nodes) n hs (s .counts) in
       let p = recount-spared m n (countAt (m .nodes) n - 1) u (omega arith) in
       record {
-          sound = spared-sound m (recounted m n (countAt (m .nodes) n - 1)) (n ∷ hs) hs s p (less-counts (m .nodes) n hs (s .counts) (countAt (m .nodes) n - 1) (omega arith) (omega arith));
-          spared = p
+        sound = spared-sound m (recounted m n (countAt (m .nodes) n - 1)) (n ∷ hs) hs s p (less-counts (m .nodes) n hs (s .counts) (countAt (m .nodes) n - 1) (omega arith) (omega arith));
+        spared = p;
       }
 
   -- the last one has gone, and what the slots name is still held
@@ -66,8 +66,8 @@ module _ (m : Memory) (n : ℕ) (hs : List ℕ) (s : Sound m (n ∷ hs)) where
   last-good e =
       let p = vacate-spared m n (owed-in (m .nodes) n hs (s .counts)) (s .within n) in
       record {
-          sound = spared-sound m (vacated m n) (n ∷ hs) (names (slotsAt (m .nodes) n) ++ hs) s p (free-counts (m .nodes) n hs (s .counts) e);
-          spared = p
+        sound = spared-sound m (vacated m n) (n ∷ hs) (names (slotsAt (m .nodes) n) ++ hs) s p (free-counts (m .nodes) n hs (s .counts) e);
+        spared = p;
       }
 
   pub last-low : countAt (m .nodes) n ≡ 1 → above (vacated m n .nodes) (slotsAt (m .nodes) n) ≤ heightAt (m .nodes) n
@@ -90,14 +90,14 @@ pub released-good : (f : ℕ) → Releases f
 released-good zero m n hs s t = absurd (omega arith)
 released-good (suc f) m n hs s t =
     ⊎-elim
-        (λ e.
-            let v : Memory = vacated m n in
-            let p = last-good m n hs s e in
-            let q = slots-good f (released-good f) v (slotsAt (m .nodes) n) hs (p .sound) (omega (arith, last-low m n hs s e)) in
-            subst (λ (b : Memory). Good m b hs) (sym (released-last f m n e))
-                (good-trans m v (each-slot (released f) v (slotsAt (m .nodes) n)) (names (slotsAt (m .nodes) n) ++ hs) hs p q))
-        (λ e. subst (λ (b : Memory). Good m b hs) (sym (released-less f m n e)) (less-good m n hs s e))
-        (cases-eq (countAt (m .nodes) n) 1)
+    (λ e.
+    let v : Memory = vacated m n in
+    let p = last-good m n hs s e in
+    let q = slots-good f (released-good f) v (slotsAt (m .nodes) n) hs (p .sound) (omega (arith, last-low m n hs s e)) in
+    subst (λ (b : Memory). Good m b hs) (sym (released-last f m n e))
+    (good-trans m v (each-slot (released f) v (slotsAt (m .nodes) n)) (names (slotsAt (m .nodes) n) ++ hs) hs p q))
+    (λ e. subst (λ (b : Memory). Good m b hs) (sym (released-less f m n e)) (less-good m n hs s e))
+    (cases-eq (countAt (m .nodes) n) 1)
 
 -- ---- one holder of n less, in a pool in order
 pub ordered-sound : (m : Memory) (hs : List ℕ) → Ordered m hs → Sound m hs
@@ -113,8 +113,8 @@ pub release-change : (m : Memory) (n : ℕ) (hs : List ℕ) → Ordered m (n ∷
 release-change m n hs o =
     let g = release-good m n hs o in
     record {
-        ordered = spared-ordered m (release m n) (g .spared) (n ∷ hs) hs o (g .sound .counts);
-        keeps = spared-keeps m (release m n) (g .spared) hs hs (g .sound .counts) (λ k h. h) (o .apart)
+      ordered = spared-ordered m (release m n) (g .spared) (n ∷ hs) hs o (g .sound .counts);
+      keeps = spared-keeps m (release m n) (g .spared) hs hs (g .sound .counts) (λ k h. h) (o .apart);
     }
 
 -- ---- the code
@@ -138,12 +138,12 @@ module _ (m : Memory) (n : ℕ) (owed : Owed (m .nodes) n) (falling : Falling (m
       let v : Memory = vacated m n in
       let low = last-low m n (owed .0) code-sound e in
       ⊎-elim
-          (λ l. r f (omega (arith, tallest-above (v .nodes) ss)))
-          (λ l.
-              r (suc (tallest (v .nodes) ss)) (omega arith)
-              ∙ slots-none (released (suc (tallest (v .nodes) ss))) (v .nodes) v ss (omega arith)
-              ∙ sym (slots-none (released f) (v .nodes) v ss (omega arith)))
-          (cases-lt 0 f)
+      (λ l. r f (omega (arith, tallest-above (v .nodes) ss)))
+      (λ l.
+      r (suc (tallest (v .nodes) ss)) (omega arith)
+      ∙ slots-none (released (suc (tallest (v .nodes) ss))) (v .nodes) v ss (omega arith)
+      ∙ sym (slots-none (released f) (v .nodes) v ss (omega arith)))
+      (cases-lt 0 f)
       ∙ sym (released-last f m n e)
 
   pub code-less : (countAt (m .nodes) n ≡ 1 → ⊥) → (f : ℕ) → heightAt (m .nodes) n < f → recounted m n (countAt (m .nodes) n - 1) ≡ released f m n
@@ -178,9 +178,9 @@ module _ (entry m : Memory) (all rest : List (Option ℕ)) (c : ℕ) (l : Left e
       let g = released-good f₀ m c hs (record { counts = l .owed .1; falling = l .falling; within = l .within }) (omega arith) in
       let d : Good m b hs = subst (λ (x : Memory). Good m x hs) (sym (r f₀ (omega arith))) g in
       record {
-          owed = (l .owed .0, d .sound .counts);
-          falling = d .sound .falling;
-          within = d .sound .within;
-          low = omega (arith, l .low, spared-above m b (d .spared) rest);
-          gives = λ f h. ap (λ (x : Memory). each-slot (released f) x rest) (r f (omega (arith, slot-low, above-tallest (entry .nodes) all))) ∙ l .gives f h
+        owed = (l .owed .0, d .sound .counts);
+        falling = d .sound .falling;
+        within = d .sound .within;
+        low = omega (arith, l .low, spared-above m b (d .spared) rest);
+        gives = λ f h. ap (λ (x : Memory). each-slot (released f) x rest) (r f (omega (arith, slot-low, above-tallest (entry .nodes) all))) ∙ l .gives f h;
       }

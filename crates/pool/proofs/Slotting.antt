@@ -39,9 +39,9 @@ pub slot-named : (ss : List (Option ℕ)) (j c : ℕ) → getD ss j None ≡ Som
 slot-named ss j c e =
     let at : (getD ss j None ≡ None) ⊎ (j < length ss) = ⊎-elim (λ l. inr l) (λ l. inl (getD-past ss j None l)) (cases-lt j (length ss)) in
     ⊎-elim
-        (λ n. let z : _≡_ {A = ℕ} 0 1 = cc in absurd (omega arith))
-        (λ l. omega (arith, names-set c ss j None l, ap (λ (s : Option ℕ). times c (name s)) e, hit-same c c refl))
-        at
+    (λ n. let z : _≡_ {A = ℕ} 0 1 = cc in absurd (omega arith))
+    (λ l. omega (arith, names-set c ss j None l, ap (λ (s : Option ℕ). times c (name s)) e, hit-same c c refl))
+    at
 
 tallest-below : (ns : List Node) (ss : List (Option ℕ)) (h : ℕ) → ((c : ℕ) → 0 < times c (names ss) → heightAt ns c ≤ h) → tallest ns ss ≤ h
 tallest-below ns [] h p = omega arith
@@ -60,34 +60,35 @@ module _ (m q : Memory) (p : ℕ) (hs : List ℕ) (i : ℕ) (o : Ordered m (p �
   pub as-tall : tallest (q .nodes) ss ≡ tallest (m .nodes) ss
   as-tall =
       tallest-same (m .nodes) (q .nodes) ss
-          (λ c h. let u = inside c h in ap (λ (x : Node). x .height) (w .others c (u .0) (u .1) .same-node))
+      (λ c h. let u = inside c h in ap (λ (x : Node). x .height) (w .others c (u .0) (u .1) .same-node))
 
   pub reslot-settles : Settles q i (with-slots (node-at q i) ss (suc (tallest (q .nodes) ss)))
   reslot-settles =
       let run : runAt (q .nodes) i ≡ 0 = ap (λ (x : Node). x .run) (w .node) ∙ bare in
       record {
-          inside = in-range (q .nodes) i (omega (arith, one));
-          unnamed = omega (arith, one, w .ordered .counts i, times-here i hs);
-          bare = run;
-          no-run = run;
-          start = omega (arith, w .ordered .within i);
-          one = one;
-          eight = long;
-          fresh = ⊎-elim (λ h. absurd (inside i h .1 refl)) (λ h. omega arith) (cases-lt 0 (times i (names ss)));
-          high = refl;
-          low = omega (arith, as-tall, low)
+        inside = in-range (q .nodes) i (omega (arith, one));
+        unnamed = omega (arith, one, w .ordered .counts i, times-here i hs);
+        bare = run;
+        no-run = run;
+        start = omega (arith, w .ordered .within i);
+        one = one;
+        eight = long;
+        fresh = ⊎-elim (λ h. absurd (inside i h .1 refl)) (λ h. omega arith) (cases-lt 0 (times i (names ss)));
+        high = refl;
+        low = omega (arith, as-tall, low);
       }
 
   reslot-counts : Counts (reslotted q i ss .nodes) new
   reslot-counts =
       let nd : Node = with-slots (node-at q i) ss (suc (tallest (q .nodes) ss)) in
       let facts : (k : ℕ) → (namesOf k (node-at q i) ≡ times k (names (slotsAt (m .nodes) p))) × (namesOf k nd ≡ times k (names ss))
-          = λ k.
-              ( names-used k (node-at q i) (omega (arith, one)) ∙ ap (λ (x : Node). times k (names (x .slots))) (w .node)
-              , names-used k nd (omega (arith, one)) ) in
+      = λ k. (
+        names-used k (node-at q i) (omega (arith, one)) ∙ ap (λ (x : Node). times k (names (x .slots))) (w .node),
+        names-used k nd (omega (arith, one)),
+      ) in
       put-counts (q .nodes) i nd (i ∷ hs) new (in-range (q .nodes) i (omega (arith, one))) (w .ordered .counts)
-          (λ k h e. omega (arith, facts k, balance k, e))
-          (λ k h. omega (arith, facts k, balance k))
+      (λ k h e. omega (arith, facts k, balance k, e))
+      (λ k h. omega (arith, facts k, balance k))
 
   pub reslot-ordered : Ordered (reslotted q i ss) new
   reslot-ordered = settled-ordered q i (with-slots (node-at q i) ss (suc (tallest (q .nodes) ss))) reslot-settles (i ∷ hs) new (w .ordered) reslot-counts
@@ -103,13 +104,13 @@ module _ (m q : Memory) (p : ℕ) (hs : List ℕ) (i : ℕ) (o : Ordered m (p �
   reslot-stands =
       let u = owed-used (m .nodes) p hs (o .counts) in
       record {
-          node =
-              getD-set-same (q .nodes) i (with-slots (node-at q i) ss (suc (tallest (q .nodes) ss))) blank (reslot-settles .inside)
-              ∙ ap₂ (λ (x : Node) (h : ℕ). with-slots x ss (suc h)) (w .node) as-tall;
-          own = w .own;
-          copy = w .copy;
-          others = reslot-others;
-          under = reslot-keeps (names (slotsAt (m .nodes) p)) (slots-used m p hs o) (omega (arith, w .unnamed, named-at i (m .nodes) p, names-used i (node-at m p) u))
+        node =
+            getD-set-same (q .nodes) i (with-slots (node-at q i) ss (suc (tallest (q .nodes) ss))) blank (reslot-settles .inside)
+            ∙ ap₂ (λ (x : Node) (h : ℕ). with-slots x ss (suc h)) (w .node) as-tall;
+        own = w .own;
+        copy = w .copy;
+        others = reslot-others;
+        under = reslot-keeps (names (slotsAt (m .nodes) p)) (slots-used m p hs o) (omega (arith, w .unnamed, named-at i (m .nodes) p, names-used i (node-at m p) u));
       }
 
 -- ---- a slot taken
@@ -131,22 +132,27 @@ module _ (m : Memory) (p j c : ℕ) (hs : List ℕ) (o : Ordered m (p ∷ hs)) (
   pub taken-low : tallest (m .nodes) (set (slotsAt (m .nodes) p) j None) ≤ 31
   taken-low =
       tallest-below (m .nodes) (set (slotsAt (m .nodes) p) j None) 31
-          (λ d h.
-              omega (arith, tallest-at (m .nodes) (slotsAt (m .nodes) p) d (omega (arith, h, less d)),
-                  o .heights p (owed-used (m .nodes) p hs (o .counts)), o .low p))
+      (λ d h.
+      omega (
+        arith,
+        tallest-at (m .nodes) (slotsAt (m .nodes) p) d (omega (arith, h, less d)),
+        o .heights p (owed-used (m .nodes) p hs (o .counts)),
+        o .low p,
+      ))
 
   module _ (q : Memory) (i : ℕ) (w : Owned m q p hs i) where
     taken-inside : (k : ℕ) → 0 < times k (names (set (slotsAt (m .nodes) p) j None)) → (0 < countAt (m .nodes) k) × (k ≡ i → ⊥)
     taken-inside k h =
         let u = owed-used (m .nodes) p hs (o .counts) in
-        let n : 0 < times k (names (slotsAt (m .nodes) p)) = omega (arith, less k, h) in
-        ( slots-used m p hs o k n
-        , λ e. omega (arith, n, w .unnamed, named-at k (m .nodes) p, names-used k (node-at m p) u, ap (λ (x : ℕ). named x (m .nodes)) e) )
+        let n : 0 < times k (names (slotsAt (m .nodes) p)) = omega (arith, less k, h) in (
+          slots-used m p hs o k n,
+          λ e. omega (arith, n, w .unnamed, named-at k (m .nodes) p, names-used k (node-at m p) u, ap (λ (x : ℕ). named x (m .nodes)) e),
+        )
 
     pub taken-settles : Settles q i (with-slots (node-at q i) (set (slotsAt (m .nodes) p) j None) (suc (tallest (q .nodes) (set (slotsAt (m .nodes) p) j None))))
     taken-settles =
         reslot-settles m q p hs i o present-bare w (i ∷ (c ∷ hs)) (set (slotsAt (m .nodes) p) j None) (length-set (slotsAt (m .nodes) p) j None ∙ eight)
-            taken-inside taken-low (λ k. omega (arith, less k))
+        taken-inside taken-low (λ k. omega (arith, less k))
 
     taken-slot : SlotTaken m (reslotted q i (set (slotsAt (m .nodes) p) j None)) p j hs i c
     taken-slot =
@@ -155,17 +161,18 @@ module _ (m : Memory) (p j c : ℕ) (hs : List ℕ) (o : Ordered m (p ∷ hs)) (
         let long : length ss ≡ 8 = length-set (slotsAt (m .nodes) p) j None ∙ eight in
         let balance : (k : ℕ) → times k new + times k (names ss) ≡ times k (i ∷ hs) + times k (names (slotsAt (m .nodes) p)) = λ k. omega (arith, less k) in
         record {
-            child = present;
-            ordered = reslot-ordered m q p hs i o present-bare w new ss long taken-inside taken-low balance;
-            keeps = reslot-keeps m q p hs i o present-bare w new ss long taken-inside taken-low balance hs (λ k h. omega (arith, o .counts k)) (w .unheld);
-            stands = reslot-stands m q p hs i o present-bare w new ss long taken-inside taken-low balance
+          child = present;
+          ordered = reslot-ordered m q p hs i o present-bare w new ss long taken-inside taken-low balance;
+          keeps = reslot-keeps m q p hs i o present-bare w new ss long taken-inside taken-low balance hs (λ k h. omega (arith, o .counts k)) (w .unheld);
+          stands = reslot-stands m q p hs i o present-bare w new ss long taken-inside taken-low balance;
         }
 
 taken-by : Memory → ℕ → ℕ → Result ℕ PoolFault → Memory → Result (ℕ × ℕ) PoolFault × Memory
 taken-by m p j r q =
     elim r [
-      Err e ↦ (Err e, q)
-    | Ok i ↦ (Ok (i, valueOr (slot-at m p j) 0), reslotted q i (set (slotsAt (q .nodes) i) j None)) ]
+      | Err e ↦ (Err e, q)
+      | Ok i ↦ (Ok (i, valueOr (slot-at m p j) 0), reslotted q i (set (slotsAt (q .nodes) i) j None))
+    ]
 
 pub slot-taken-is : (m : Memory) (p j c : ℕ) (hs : List ℕ) → Ordered m (p ∷ hs) → j < 8 → slot-at m p j ≡ Some c → Taken m (slot-taken m p j .1) p j hs (slot-taken m p j .0)
 unfolding taken-by
@@ -177,8 +184,8 @@ slot-taken-is m p j c hs o small present = go (owned m p .0) (owned m p .1) (own
         let slots : slotsAt (q .nodes) i ≡ slotsAt (m .nodes) p = ap (λ (x : Node). x .slots) (w .node) in
         let child : valueOr (slot-at m p j) 0 ≡ c = ap (λ (s : Option ℕ). valueOr s 0) present in
         subst (λ (ss : List (Option ℕ)). SlotTaken m (reslotted q i (set ss j None)) p j hs i (valueOr (slot-at m p j) 0)) (sym slots)
-            (subst (λ (x : ℕ). SlotTaken m (reslotted q i (set (slotsAt (m .nodes) p) j None)) p j hs i x) (sym child)
-                (taken-slot m p j c hs o small present q i w))
+        (subst (λ (x : ℕ). SlotTaken m (reslotted q i (set (slotsAt (m .nodes) p) j None)) p j hs i x) (sym child)
+        (taken-slot m p j c hs o small present q i w))
 
 -- ---- a slot put
 module _ (m : Memory) (p j c : ℕ) (hs : List ℕ) (o : Ordered m (p ∷ (c ∷ hs))) (small : j < 8) (absent : slot-at m p j ≡ None) where
@@ -192,18 +199,28 @@ module _ (m : Memory) (p j c : ℕ) (hs : List ℕ) (o : Ordered m (p ∷ (c ∷
   pub put-used : (k : ℕ) → 0 < times k (names (set (slotsAt (m .nodes) p) j (Some c))) → 0 < countAt (m .nodes) k
   put-used k h =
       ⊎-elim
-          (λ n. slots-used m p (c ∷ hs) o k n)
-          (λ n. omega (arith, more k, o .counts k))
-          (cases-lt 0 (times k (names (slotsAt (m .nodes) p))))
+      (λ n. slots-used m p (c ∷ hs) o k n)
+      (λ n. omega (arith, more k, o .counts k))
+      (cases-lt 0 (times k (names (slotsAt (m .nodes) p))))
 
   module _ (bare : runAt (m .nodes) p ≡ 0) (low : tallest (m .nodes) (set (slotsAt (m .nodes) p) j (Some c)) ≤ 31) (q : Memory) (i : ℕ) (w : Owned m q p (c ∷ hs) i) where
     put-inside : (k : ℕ) → 0 < times k (names (set (slotsAt (m .nodes) p) j (Some c))) → (0 < countAt (m .nodes) k) × (k ≡ i → ⊥)
     put-inside k h =
-        let u = owed-used (m .nodes) p (c ∷ hs) (o .counts) in
-        ( put-used k h
-        , λ e.
-            omega (arith, h, more k, w .unnamed, w .unheld, named-at k (m .nodes) p, names-used k (node-at m p) u,
-                ap (λ (x : ℕ). named x (m .nodes)) e, ap (λ (x : ℕ). hit c x) e) )
+        let u = owed-used (m .nodes) p (c ∷ hs) (o .counts) in (
+          put-used k h,
+          λ e.
+              omega (
+                arith,
+                h,
+                more k,
+                w .unnamed,
+                w .unheld,
+                named-at k (m .nodes) p,
+                names-used k (node-at m p) u,
+                ap (λ (x : ℕ). named x (m .nodes)) e,
+                ap (λ (x : ℕ). hit c x) e,
+              ),
+        )
 
     put-balance : (k : ℕ) → times k (i ∷ hs) + times k (names (set (slotsAt (m .nodes) p) j (Some c))) ≡ times k (i ∷ (c ∷ hs)) + times k (names (slotsAt (m .nodes) p))
     put-balance k = omega (arith, more k)
@@ -213,17 +230,17 @@ module _ (m : Memory) (p j c : ℕ) (hs : List ℕ) (o : Ordered m (p ∷ (c ∷
         let ss : List (Option ℕ) = set (slotsAt (m .nodes) p) j (Some c) in
         let long : length ss ≡ 8 = length-set (slotsAt (m .nodes) p) j (Some c) ∙ eight-put in
         record {
-            ordered = reslot-ordered m q p (c ∷ hs) i o bare w (i ∷ hs) ss long put-inside low put-balance;
-            keeps = reslot-keeps m q p (c ∷ hs) i o bare w (i ∷ hs) ss long put-inside low put-balance (c ∷ hs) (λ k h. omega (arith, o .counts k)) (w .unheld);
-            stands = reslot-stands m q p (c ∷ hs) i o bare w (i ∷ hs) ss long put-inside low put-balance;
-            height = omega (arith, low)
+          ordered = reslot-ordered m q p (c ∷ hs) i o bare w (i ∷ hs) ss long put-inside low put-balance;
+          keeps = reslot-keeps m q p (c ∷ hs) i o bare w (i ∷ hs) ss long put-inside low put-balance (c ∷ hs) (λ k h. omega (arith, o .counts k)) (w .unheld);
+          stands = reslot-stands m q p (c ∷ hs) i o bare w (i ∷ hs) ss long put-inside low put-balance;
+          height = omega (arith, low);
         }
 
     -- the height that was found before the copy is that after it
     pub put-tall : tallest (q .nodes) (set (slotsAt (m .nodes) p) j (Some c)) ≡ tallest (m .nodes) (set (slotsAt (m .nodes) p) j (Some c))
     put-tall =
         as-tall m q p (c ∷ hs) i o bare w (i ∷ hs) (set (slotsAt (m .nodes) p) j (Some c)) (length-set (slotsAt (m .nodes) p) j (Some c) ∙ eight-put)
-            put-inside low put-balance
+        put-inside low put-balance
 
 put-by : ℕ → ℕ → Result ℕ PoolFault → Memory → Result ℕ PoolFault × Memory
 put-by j c r q = elim r [ Err e ↦ (Err e, q) | Ok i ↦ (Ok i, reslotted q i (set (slotsAt (q .nodes) i) j (Some c))) ]

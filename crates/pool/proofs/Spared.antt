@@ -45,22 +45,22 @@ module _ (ws : List ℕ) (s n : ℕ) (xs : List ℕ) (h : s + n ≤ length ws) (
 pub part-same : (a b : List ℕ) (s r : ℕ) → length b ≡ length a → ((i : ℕ) → s ≤ i → i < s + r → getD b i 0 ≡ getD a i 0) → part b s r ≡ part a s r
 part-same a b s r l e =
     let at : (ws : List ℕ) (i : ℕ) → i < r → getD (take r (drop s ws)) i 0 ≡ getD ws (s + i) 0
-        = λ ws i h. getD-take r (drop s ws) i 0 h ∙ getD-drop s ws i 0 in
+    = λ ws i h. getD-take r (drop s ws) i 0 h ∙ getD-drop s ws i 0 in
     ext-getD 0 (part b s r) (part a s r)
-        (omega (arith, length-take r (drop s b), length-take r (drop s a), length-drop s b, length-drop s a))
-        (λ i h.
-            let q : i < r = omega (arith, length-take r (drop s b)) in
-            at b i q ∙ e (s + i) (omega arith) (omega arith) ∙ sym (at a i q))
+    (omega (arith, length-take r (drop s b), length-take r (drop s a), length-drop s b, length-drop s a))
+    (λ i h.
+    let q : i < r = omega (arith, length-take r (drop s b)) in
+    at b i q ∙ e (s + i) (omega arith) (omega arith) ∙ sym (at a i q))
 
 -- a part apart from what was overwritten
 pub part-apart : (ws : List ℕ) (s n : ℕ) (xs : List ℕ) → s + n ≤ length ws → length xs ≡ n → (t r : ℕ) → ((i : ℕ) → s ≤ i → i < s + n → t ≤ i → i < t + r → ⊥) → part (overwritten ws s n xs) t r ≡ part ws t r
 part-apart ws s n xs h l t r ne =
     part-same ws (overwritten ws s n xs) t r (overwritten-long ws s n xs h l)
-        (λ i p q.
-            ⊎-elim
-                (λ b. overwritten-before ws s n xs h l i b)
-                (λ b. ⊎-elim (λ d. absurd (ne i b d p q)) (λ d. overwritten-after ws s n xs h l i d) (cases-lt i (s + n)))
-                (cases-lt i s))
+    (λ i p q.
+    ⊎-elim
+    (λ b. overwritten-before ws s n xs h l i b)
+    (λ b. ⊎-elim (λ d. absurd (ne i b d p q)) (λ d. overwritten-after ws s n xs h l i d) (cases-lt i (s + n)))
+    (cases-lt i s))
 
 -- ---- a node as it was but for its count, in use or free as before; or free now
 pub data KeptAt (x y : Node) : Type 0 where
@@ -142,15 +142,15 @@ module _ (a b : Memory) (s : Spared a b) where
   pub spared-trans : (c : Memory) → Spared b c → Spared a c
   spared-trans c t =
       record {
-          nodes-long = t .nodes-long ∙ s .nodes-long;
-          words-long = t .words-long ∙ s .words-long;
-          kept = λ k. kept-trans (node-at a k) (node-at b k) (node-at c k) (s .kept k) (t .kept k);
-          runs = λ p k i l h.
-              let e = kept-run (node-at b k) (node-at c k) (t .kept k) (omega arith) in
-              let q = ap (λ (nd : Node). nd .start) e in
-              let r = ap (λ (nd : Node). nd .run) e in
-              t .runs (spared-apart p) k i l h ∙ s .runs p k i (omega (arith, q)) (omega (arith, q, r));
-          cleared = λ p. t .cleared (s .cleared p)
+        nodes-long = t .nodes-long ∙ s .nodes-long;
+        words-long = t .words-long ∙ s .words-long;
+        kept = λ k. kept-trans (node-at a k) (node-at b k) (node-at c k) (s .kept k) (t .kept k);
+        runs = λ p k i l h.
+            let e = kept-run (node-at b k) (node-at c k) (t .kept k) (omega arith) in
+            let q = ap (λ (nd : Node). nd .start) e in
+            let r = ap (λ (nd : Node). nd .run) e in
+            t .runs (spared-apart p) k i l h ∙ s .runs p k i (omega (arith, q)) (omega (arith, q, r));
+        cleared = λ p. t .cleared (s .cleared p);
       }
 
   -- one in use is as it was, and so is its run
@@ -160,10 +160,10 @@ module _ (a b : Memory) (s : Spared a b) where
       let q : startAt (b .nodes) k ≡ startAt (a .nodes) k = ap (λ (nd : Node). nd .start) e in
       let r : runAt (b .nodes) k ≡ runAt (a .nodes) k = ap (λ (nd : Node). nd .run) e in
       record {
-          same-node = e;
-          same-run =
-              part-same (a .words) (b .words) (startAt (b .nodes) k) (runAt (b .nodes) k) (s .words-long) (s .runs p k)
-              ∙ ap₂ (λ (x y : ℕ). part (a .words) x y) q r
+        same-node = e;
+        same-run =
+            part-same (a .words) (b .words) (startAt (b .nodes) k) (runAt (b .nodes) k) (s .words-long) (s .runs p k)
+            ∙ ap₂ (λ (x y : ℕ). part (a .words) x y) q r;
       }
 
   -- what the holders reach is in use
@@ -185,9 +185,9 @@ module _ (a b : Memory) (s : Spared a b) where
       let h : heightAt (b .nodes) k ≡ heightAt (a .nodes) k = ap (λ (nd : Node). nd .height) (e .1) in
       let ss : tallest (b .nodes) (slotsAt (b .nodes) k) ≡ tallest (b .nodes) (slotsAt (a .nodes) k) = ap (λ (nd : Node). tallest (b .nodes) (nd .slots)) (e .1) in
       let t = tallest-same (a .nodes) (b .nodes) (slotsAt (a .nodes) k)
-              (λ c i.
-                  let v = named-used (b .nodes) hs counts k c u (subst (λ (n : ℕ). 0 < n) (sym (ap (λ (nd : Node). times c (names (nd .slots))) (e .1))) i) in
-                  ap (λ (nd : Node). nd .height) (kept-used (node-at a c) (node-at b c) (s .kept c) v .1)) in
+      (λ c i.
+      let v = named-used (b .nodes) hs counts k c u (subst (λ (n : ℕ). 0 < n) (sym (ap (λ (nd : Node). times c (names (nd .slots))) (e .1))) i) in
+      ap (λ (nd : Node). nd .height) (kept-used (node-at a c) (node-at b c) (s .kept c) v .1)) in
       omega (arith, heights k (e .0), h, ss, t)
 
   eight-at : (k : ℕ) → KeptAt (node-at a k) (node-at b k) → length (slotsAt (a .nodes) k) ≡ 8 → length (slotsAt (b .nodes) k) ≡ 8
@@ -201,19 +201,19 @@ module _ (a b : Memory) (s : Spared a b) where
   pub spared-ordered : (hs hs′ : List ℕ) → Ordered a hs → Counts (b .nodes) hs′ → Ordered b hs′
   spared-ordered hs hs′ o counts =
       record {
-          nodes-long = s .nodes-long ∙ o .nodes-long;
-          words-long = s .words-long ∙ o .words-long;
-          counts = counts;
-          heights = spared-heights hs′ counts (o .heights);
-          low = λ k. omega (arith, o .low k, kept-height (node-at a k) (node-at b k) (s .kept k));
-          eight = λ k l. eight-at k (s .kept k) (o .eight k (omega (arith, s .nodes-long)));
-          within = spared-within (o .within);
-          apart = spared-apart (o .apart);
-          slotless = λ k c r.
-              let e = kept-run (node-at a k) (node-at b k) (s .kept k) r in
-              ap (λ (nd : Node). times c (names (nd .slots))) e ∙ o .slotless k c (omega (arith, spared-node k r));
-          freed = λ k l z. freed-at k (s .kept k) (o .freed k (omega (arith, s .nodes-long))) z;
-          cleared = s .cleared (o .cleared)
+        nodes-long = s .nodes-long ∙ o .nodes-long;
+        words-long = s .words-long ∙ o .words-long;
+        counts = counts;
+        heights = spared-heights hs′ counts (o .heights);
+        low = λ k. omega (arith, o .low k, kept-height (node-at a k) (node-at b k) (s .kept k));
+        eight = λ k l. eight-at k (s .kept k) (o .eight k (omega (arith, s .nodes-long)));
+        within = spared-within (o .within);
+        apart = spared-apart (o .apart);
+        slotless = λ k c r.
+            let e = kept-run (node-at a k) (node-at b k) (s .kept k) r in
+            ap (λ (nd : Node). times c (names (nd .slots))) e ∙ o .slotless k c (omega (arith, spared-node k r));
+        freed = λ k l z. freed-at k (s .kept k) (o .freed k (omega (arith, s .nodes-long))) z;
+        cleared = s .cleared (o .cleared);
       }
 
 -- ---- another count, where neither is 0
@@ -223,28 +223,28 @@ recount-spared m n c u v =
     let l = in-range (m .nodes) n u in
     let q : Memory = recounted m n c in
     let at : (k : ℕ) → (node-at q k ≡ with-count (node-at m k) (countAt (q .nodes) k)) × KeptAt (node-at m k) (node-at q k)
-        = λ k.
-            ⊎-elim
-                (λ p.
-                    let e : node-at q k ≡ with-count (node-at m k) c = p .1 ∙ ap (λ (j : ℕ). with-count (node-at m j) c) (sym (p .0)) in
-                    let d : countAt (q .nodes) k ≡ c = ap (λ (x : Node). x .count) e in
-                    let w : countAt (m .nodes) k ≡ countAt (m .nodes) n = ap (λ (j : ℕ). countAt (m .nodes) j) (p .0) in
-                    let f : node-at q k ≡ with-count (node-at m k) (countAt (q .nodes) k) = e ∙ ap (λ (j : ℕ). with-count (node-at m k) j) (sym d) in
-                    (f, same f (λ z. absurd (omega (arith, z, d))) (λ z. absurd (omega (arith, z, w)))))
-                (λ p.
-                    let f : node-at q k ≡ with-count (node-at m k) (countAt (q .nodes) k) = p .1 ∙ ap (λ (j : ℕ). with-count (node-at m k) j) (sym (ap (λ (x : Node). x .count) (p .1))) in
-                    (f, kept-eq (node-at m k) (node-at q k) (p .1)))
-                (set-cases (m .nodes) n nd l k) in
+    = λ k.
+    ⊎-elim
+    (λ p.
+    let e : node-at q k ≡ with-count (node-at m k) c = p .1 ∙ ap (λ (j : ℕ). with-count (node-at m j) c) (sym (p .0)) in
+    let d : countAt (q .nodes) k ≡ c = ap (λ (x : Node). x .count) e in
+    let w : countAt (m .nodes) k ≡ countAt (m .nodes) n = ap (λ (j : ℕ). countAt (m .nodes) j) (p .0) in
+    let f : node-at q k ≡ with-count (node-at m k) (countAt (q .nodes) k) = e ∙ ap (λ (j : ℕ). with-count (node-at m k) j) (sym d) in
+    (f, same f (λ z. absurd (omega (arith, z, d))) (λ z. absurd (omega (arith, z, w)))))
+    (λ p.
+    let f : node-at q k ≡ with-count (node-at m k) (countAt (q .nodes) k) = p .1 ∙ ap (λ (j : ℕ). with-count (node-at m k) j) (sym (ap (λ (x : Node). x .count) (p .1))) in
+    (f, kept-eq (node-at m k) (node-at q k) (p .1)))
+    (set-cases (m .nodes) n nd l k) in
     record {
-        nodes-long = length-set (m .nodes) n nd;
-        words-long = refl;
-        kept = λ k. at k .1;
-        runs = λ p k i a b. refl;
-        cleared = λ p i none.
-            p i (λ k a b.
-                none k
-                    (omega (arith, ap (λ (x : Node). x .start) (at k .0)))
-                    (omega (arith, ap (λ (x : Node). x .start) (at k .0), ap (λ (x : Node). x .run) (at k .0))))
+      nodes-long = length-set (m .nodes) n nd;
+      words-long = refl;
+      kept = λ k. at k .1;
+      runs = λ p k i a b. refl;
+      cleared = λ p i none.
+          p i (λ k a b.
+          none k
+          (omega (arith, ap (λ (x : Node). x .start) (at k .0)))
+          (omega (arith, ap (λ (x : Node). x .start) (at k .0), ap (λ (x : Node). x .run) (at k .0))));
     }
 
 pub retained-change : (m : Memory) (n : ℕ) (hs : List ℕ) → Ordered m hs → 0 < countAt (m .nodes) n → Change m (retained m n) (n ∷ hs) hs
@@ -252,8 +252,8 @@ retained-change m n hs o u =
     let s = recount-spared m n (countAt (m .nodes) n + 1) u (omega arith) in
     let counts = more-counts (m .nodes) n hs u (o .counts) in
     record {
-        ordered = spared-ordered m (retained m n) s hs (n ∷ hs) o counts;
-        keeps = spared-keeps m (retained m n) s hs (n ∷ hs) counts (λ k h. omega arith) (o .apart)
+      ordered = spared-ordered m (retained m n) s hs (n ∷ hs) o counts;
+      keeps = spared-keeps m (retained m n) s hs (n ∷ hs) counts (λ k h. omega arith) (o .apart);
     }
 
 -- ---- a node free, and its words 0
@@ -276,52 +276,52 @@ module _ (m : Memory) (n : ℕ) (l : n < length (m .nodes)) (w : startAt (m .nod
   vacated-run : Apart (m .nodes) → (k i : ℕ) → (k ≡ n → ⊥) → startAt (m .nodes) k ≤ i → i < startAt (m .nodes) k + runAt (m .nodes) k → getD (vacated m n .words) i 0 ≡ getD (m .words) i 0
   vacated-run p k i ne a b =
       ⊎-elim
-          (λ c. vacated-before i c)
-          (λ c.
-              ⊎-elim
-                  (λ d.
-                      absurd
-                          (⊎-elim
-                              (λ e. omega (arith, p k n ne (omega arith) (omega arith) (omega arith)))
-                              (λ e. omega (arith, p n k (λ q. ne (sym q)) (omega arith) (omega arith) e))
-                              (cases-lt (startAt (m .nodes) k) (startAt (m .nodes) n))))
-                  (λ d. vacated-after i d)
-                  (cases-lt i (startAt (m .nodes) n + runAt (m .nodes) n)))
-          (cases-lt i (startAt (m .nodes) n))
+      (λ c. vacated-before i c)
+      (λ c.
+      ⊎-elim
+      (λ d.
+      absurd
+      (⊎-elim
+      (λ e. omega (arith, p k n ne (omega arith) (omega arith) (omega arith)))
+      (λ e. omega (arith, p n k (λ q. ne (sym q)) (omega arith) (omega arith) e))
+      (cases-lt (startAt (m .nodes) k) (startAt (m .nodes) n))))
+      (λ d. vacated-after i d)
+      (cases-lt i (startAt (m .nodes) n + runAt (m .nodes) n)))
+      (cases-lt i (startAt (m .nodes) n))
 
   -- a word that no run has now
   vacated-cleared : Cleared (m .nodes) (m .words) → Cleared (vacated m n .nodes) (vacated m n .words)
   vacated-cleared p i none =
       let out : (i < startAt (m .nodes) n) ⊎ (startAt (m .nodes) n + runAt (m .nodes) n ≤ i) → getD (m .words) i 0 ≡ 0
-          = λ apart. p i (λ k a b.
-              ⊎-elim
-                  (λ q.
-                      let s = ap (λ (j : ℕ). startAt (m .nodes) j) (q .0) in
-                      let r = ap (λ (j : ℕ). runAt (m .nodes) j) (q .0) in
-                      ⊎-elim (λ c. omega (arith, c, s)) (λ c. omega (arith, c, s, r)) apart)
-                  (λ q.
-                      let s = ap (λ (x : Node). x .start) (q .1) in
-                      let r = ap (λ (x : Node). x .run) (q .1) in
-                      none k (omega (arith, s)) (omega (arith, s, r)))
-                  (set-cases (m .nodes) n free-node l k)) in
+      = λ apart. p i (λ k a b.
       ⊎-elim
-          (λ c. vacated-before i c ∙ out (inl c))
-          (λ c. ⊎-elim (λ d. vacated-in i c d) (λ d. vacated-after i d ∙ out (inr d)) (cases-lt i (startAt (m .nodes) n + runAt (m .nodes) n)))
-          (cases-lt i (startAt (m .nodes) n))
+      (λ q.
+      let s = ap (λ (j : ℕ). startAt (m .nodes) j) (q .0) in
+      let r = ap (λ (j : ℕ). runAt (m .nodes) j) (q .0) in
+      ⊎-elim (λ c. omega (arith, c, s)) (λ c. omega (arith, c, s, r)) apart)
+      (λ q.
+      let s = ap (λ (x : Node). x .start) (q .1) in
+      let r = ap (λ (x : Node). x .run) (q .1) in
+      none k (omega (arith, s)) (omega (arith, s, r)))
+      (set-cases (m .nodes) n free-node l k)) in
+      ⊎-elim
+      (λ c. vacated-before i c ∙ out (inl c))
+      (λ c. ⊎-elim (λ d. vacated-in i c d) (λ d. vacated-after i d ∙ out (inr d)) (cases-lt i (startAt (m .nodes) n + runAt (m .nodes) n)))
+      (cases-lt i (startAt (m .nodes) n))
 
   pub vacate-spared : Spared m (vacated m n)
   vacate-spared =
       record {
-          nodes-long = length-set (m .nodes) n free-node;
-          words-long = overwritten-long (m .words) (startAt (m .nodes) n) (runAt (m .nodes) n) (replicate (runAt (m .nodes) n) 0) w zeros-long;
-          kept = λ k. ⊎-elim (λ q. gone (q .1)) (λ q. kept-eq (node-at m k) (node-at (vacated m n) k) (q .1)) (set-cases (m .nodes) n free-node l k);
-          runs = λ p k i a b.
-              ⊎-elim
-                  (λ q. absurd (omega (arith, ap (λ (x : Node). x .start) (q .1), ap (λ (x : Node). x .run) (q .1))))
-                  (λ q.
-                      let s = ap (λ (x : Node). x .start) (q .1) in
-                      let r = ap (λ (x : Node). x .run) (q .1) in
-                      vacated-run p k i (q .0) (omega (arith, s)) (omega (arith, s, r)))
-                  (set-cases (m .nodes) n free-node l k);
-          cleared = vacated-cleared
+        nodes-long = length-set (m .nodes) n free-node;
+        words-long = overwritten-long (m .words) (startAt (m .nodes) n) (runAt (m .nodes) n) (replicate (runAt (m .nodes) n) 0) w zeros-long;
+        kept = λ k. ⊎-elim (λ q. gone (q .1)) (λ q. kept-eq (node-at m k) (node-at (vacated m n) k) (q .1)) (set-cases (m .nodes) n free-node l k);
+        runs = λ p k i a b.
+            ⊎-elim
+            (λ q. absurd (omega (arith, ap (λ (x : Node). x .start) (q .1), ap (λ (x : Node). x .run) (q .1))))
+            (λ q.
+            let s = ap (λ (x : Node). x .start) (q .1) in
+            let r = ap (λ (x : Node). x .run) (q .1) in
+            vacated-run p k i (q .0) (omega (arith, s)) (omega (arith, s, r)))
+            (set-cases (m .nodes) n free-node l k);
+        cleared = vacated-cleared;
       }

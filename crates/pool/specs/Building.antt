@@ -25,10 +25,12 @@ open-node kind n start run =
 abbrev pub opened : Memory → ℕ → ℕ → ℕ → Result ℕ PoolFault × Memory
 opened m kind n w =
     elim (lowest-free (m .nodes) 0) [
-      None ↦ (Err Nodes, m)
-    | Some i ↦ elim (find-run m w) [
-        None ↦ (Err Words, m)
-      | Some s ↦ (Ok i, put-node m i (open-node kind n s w)) ] ]
+      | None ↦ (Err Nodes, m)
+      | Some i ↦ elim (find-run m w) [
+        | None ↦ (Err Words, m)
+        | Some s ↦ (Ok i, put-node m i (open-node kind n s w))
+      ]
+    ]
 
 -- one row more in builder i, which has k
 abbrev pub append-row : Kinds → Memory → ℕ → ℕ → Row → Memory

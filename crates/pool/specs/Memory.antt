@@ -47,24 +47,48 @@ runAt ns k = getD ns k blank .run
 abbrev pub with-count : Node → ℕ → Node
 with-count nd c =
     record {
-        encoding = nd .encoding; kind = nd .kind; len = nd .len; parameter = nd .parameter; arity = nd .arity;
-        slots = nd .slots; height = nd .height; count = c; start = nd .start; run = nd .run
+      encoding = nd .encoding;
+      kind = nd .kind;
+      len = nd .len;
+      parameter = nd .parameter;
+      arity = nd .arity;
+      slots = nd .slots;
+      height = nd .height;
+      count = c;
+      start = nd .start;
+      run = nd .run;
     }
 
 -- the node with other slots, at another height
 abbrev pub with-slots : Node → List (Option ℕ) → ℕ → Node
 with-slots nd ss h =
     record {
-        encoding = nd .encoding; kind = nd .kind; len = nd .len; parameter = nd .parameter; arity = nd .arity;
-        slots = ss; height = h; count = nd .count; start = nd .start; run = nd .run
+      encoding = nd .encoding;
+      kind = nd .kind;
+      len = nd .len;
+      parameter = nd .parameter;
+      arity = nd .arity;
+      slots = ss;
+      height = h;
+      count = nd .count;
+      start = nd .start;
+      run = nd .run;
     }
 
 -- the node with another encoding
 abbrev pub with-encoding : Node → ℕ → Node
 with-encoding nd e =
     record {
-        encoding = e; kind = nd .kind; len = nd .len; parameter = nd .parameter; arity = nd .arity;
-        slots = nd .slots; height = nd .height; count = nd .count; start = nd .start; run = nd .run
+      encoding = e;
+      kind = nd .kind;
+      len = nd .len;
+      parameter = nd .parameter;
+      arity = nd .arity;
+      slots = nd .slots;
+      height = nd .height;
+      count = nd .count;
+      start = nd .start;
+      run = nd .run;
     }
 
 -- the memory with another node at k

@@ -20,8 +20,8 @@ retained m k = recounted m k (countAt (m .nodes) k + 1)
 abbrev pub vacated : Memory → ℕ → Memory
 vacated m k =
     record {
-        nodes = set (m .nodes) k free-node;
-        words = overwritten (m .words) (startAt (m .nodes) k) (runAt (m .nodes) k) (replicate (runAt (m .nodes) k) 0)
+      nodes = set (m .nodes) k free-node;
+      words = overwritten (m .words) (startAt (m .nodes) k) (runAt (m .nodes) k) (replicate (runAt (m .nodes) k) 0);
     }
 
 -- one by one, for all that the slots name
@@ -35,8 +35,9 @@ unfoldable pub released : ℕ → Memory → ℕ → Memory
 released zero m k = m
 released (suc f) m k =
     elim (eqb (countAt (m .nodes) k) 1) [
-      true ↦ each-slot (released f) (vacated m k) (slotsAt (m .nodes) k)
-    | false ↦ recounted m k (countAt (m .nodes) k - 1) ]
+      | true ↦ each-slot (released f) (vacated m k) (slotsAt (m .nodes) k)
+      | false ↦ recounted m k (countAt (m .nodes) k - 1)
+    ]
 
 -- one holder of k less
 abbrev pub release : Memory → ℕ → Memory

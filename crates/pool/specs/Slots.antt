@@ -24,10 +24,12 @@ use Rattle.pool.specs.Finding.{lowest-free, LowestNode}
 abbrev pub owned : Memory → ℕ → Result ℕ PoolFault × Memory
 owned m p =
     elim (eqb (countAt (m .nodes) p) 1) [
-      true ↦ (Ok p, m)
-    | false ↦ elim (lowest-free (m .nodes) 0) [
-        None ↦ (Err Nodes, m)
-      | Some i ↦ (Ok i, put-node (each-slot retained (recounted m p (countAt (m .nodes) p - 1)) (slotsAt (m .nodes) p)) i (with-count (node-at m p) 1)) ] ]
+      | true ↦ (Ok p, m)
+      | false ↦ elim (lowest-free (m .nodes) 0) [
+        | None ↦ (Err Nodes, m)
+        | Some i ↦ (Ok i, put-node (each-slot retained (recounted m p (countAt (m .nodes) p - 1)) (slotsAt (m .nodes) p)) i (with-count (node-at m p) 1))
+      ]
+    ]
 
 -- p with these slots, at the height that they give
 abbrev pub reslotted : Memory → ℕ → List (Option ℕ) → Memory
@@ -41,17 +43,19 @@ abbrev pub slot-taken : Memory → ℕ → ℕ → Result (ℕ × ℕ) PoolFault
 slot-taken m p j =
     let o = owned m p in
     elim (o .0) [
-      Err e ↦ (Err e, o .1)
-    | Ok i ↦ (Ok (i, valueOr (slot-at m p j) 0), reslotted (o .1) i (set (slotsAt ((o .1) .nodes) i) j None)) ]
+      | Err e ↦ (Err e, o .1)
+      | Ok i ↦ (Ok (i, valueOr (slot-at m p j) 0), reslotted (o .1) i (set (slotsAt ((o .1) .nodes) i) j None))
+    ]
 
 -- the parent with c, which the caller held, in its slot j; too high a parent is refused before a node is sought
 abbrev pub slot-put : Memory → ℕ → ℕ → ℕ → Result ℕ PoolFault × Memory
 slot-put m p j c =
     elim (ltb 31 (tallest (m .nodes) (set (slotsAt (m .nodes) p) j (Some c)))) [
-      true ↦ (Err Height, m)
-    | false ↦
-        let o = owned m p in
-        elim (o .0) [ Err e ↦ (Err e, o .1) | Ok i ↦ (Ok i, reslotted (o .1) i (set (slotsAt ((o .1) .nodes) i) j (Some c))) ] ]
+      | true ↦ (Err Height, m)
+      | false ↦
+          let o = owned m p in
+          elim (o .0) [ Err e ↦ (Err e, o .1) | Ok i ↦ (Ok i, reslotted (o .1) i (set (slotsAt ((o .1) .nodes) i) j (Some c))) ]
+    ]
 
 -- p's node with these slots, at their exact height, held once
 abbrev pub slotted : Memory → ℕ → List (Option ℕ) → Node

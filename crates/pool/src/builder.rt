@@ -25,7 +25,12 @@ pub struct Builder {
 
 impl Pool<'_> {
     // A builder of n rows of a kind, with its node and its whole run of words.
-    pub fn open_builder<K: RowKinds>(&mut self, kinds: &K, kind: u8, n: u16) -> Result<u8, PoolFault>
+    pub fn open_builder<K: RowKinds>(
+        &mut self,
+        kinds: &K,
+        kind: u8,
+        n: u16,
+    ) -> Result<u8, PoolFault>
         requires rows { ⌜ n ≤ 1024 ⌝ }
         requires sized { ⌜ length (now self .nodes .now) ≤ 256 ⌝ ∗ ⌜ length (now self .words .now) ≤ 65535 ⌝ }
         ensures { λ r. ⌜ (r, memory-of (now (self .exit))) ≡ opened (memory-of (now (self .entry))) kind n (K·RowKinds .kinds (now (kinds .entry)) .kind kind .words n) ⌝ }
@@ -37,7 +42,18 @@ impl Pool<'_> {
         let Some(start) = self.find_run(run) else {
             return Err(PoolFault::Words);
         };
-        self.nodes[node as usize] = Node { encoding: 0, kind, len: n, parameter: 0, arity: 0, slots: [None; SLOTS], height: 1, count: 1, start, run };
+        self.nodes[node as usize] = Node {
+            encoding: 0,
+            kind,
+            len: n,
+            parameter: 0,
+            arity: 0,
+            slots: [None; SLOTS],
+            height: 1,
+            count: 1,
+            start,
+            run,
+        };
         Ok(node)
     }
 

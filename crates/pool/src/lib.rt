@@ -1,7 +1,7 @@
+pub mod builder;
+pub mod finding;
 pub mod node;
 pub mod pool;
 pub mod seen;
 pub mod sharing;
-pub mod finding;
-pub mod builder;
 pub mod slots;

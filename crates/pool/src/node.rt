@@ -27,7 +27,18 @@ pub struct Node {
 
 impl Node {
     // What a node is while it is not in use.
-    pub const FREE: Node = Node { encoding: 0, kind: 0, len: 0, parameter: 0, arity: 0, slots: [None; SLOTS], height: 0, count: 0, start: 0, run: 0 };
+    pub const FREE: Node = Node {
+        encoding: 0,
+        kind: 0,
+        len: 0,
+        parameter: 0,
+        arity: 0,
+        slots: [None; SLOTS],
+        height: 0,
+        count: 0,
+        start: 0,
+        run: 0,
+    };
 }
 
 // Why the pool refuses.

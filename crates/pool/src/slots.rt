@@ -81,7 +81,11 @@ impl Pool<'_> {
         let mut slots = node.slots;
         slots[slot as usize] = None;
         let height = self.tallest(slots) + 1;
-        self.nodes[parent as usize] = Node { slots, height, ..node };
+        self.nodes[parent as usize] = Node {
+            slots,
+            height,
+            ..node
+        };
         Ok((parent, child))
     }
 
@@ -103,7 +107,11 @@ impl Pool<'_> {
         }
         let parent = self.own(parent)?;
         let node = self.nodes[parent as usize];
-        self.nodes[parent as usize] = Node { slots, height: height + 1, ..node };
+        self.nodes[parent as usize] = Node {
+            slots,
+            height: height + 1,
+            ..node
+        };
         Ok(parent)
     }
 }

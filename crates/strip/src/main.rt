@@ -64,17 +64,28 @@ fn tell(rt: &LibcRuntime, what: &str, result: Result<(), Refusal>) -> Result<(),
 }
 
 // Says how much is in use.
-fn tell_usage<K: RowKinds, E: Encoding, B: Bank, M: Matcher>(rt: &LibcRuntime, planner: &Planner<'_, K, E, B, M>) -> Result<(), AnyError> {
+fn tell_usage<K: RowKinds, E: Encoding, B: Bank, M: Matcher>(
+    rt: &LibcRuntime,
+    planner: &Planner<'_, K, E, B, M>,
+) -> Result<(), AnyError> {
     let usage = planner.inspect();
     let roots = usage.roots;
     let nodes = usage.nodes;
     let words = usage.words;
-    println!(rt, "  in use: {roots} of 32 roots, {nodes} of 256 nodes, {words} of 8192 words")?;
+    println!(
+        rt,
+        "  in use: {roots} of 32 roots, {nodes} of 256 nodes, {words} of 8192 words"
+    )?;
     Ok(())
 }
 
 // Reads the array under a root, and lays its rows beside those that it was made from.
-fn compare<K: RowKinds, E: Encoding, B: Bank, M: Matcher>(rt: &LibcRuntime, planner: &Planner<'_, K, E, B, M>, root: u8, laid: &[u32]) -> Result<(), AnyError> {
+fn compare<K: RowKinds, E: Encoding, B: Bank, M: Matcher>(
+    rt: &LibcRuntime,
+    planner: &Planner<'_, K, E, B, M>,
+    root: u8,
+    laid: &[u32],
+) -> Result<(), AnyError> {
     let reading = match planner.read(root) {
         Ok(reading) => reading,
         Err(refusal) => {
@@ -86,7 +97,10 @@ fn compare<K: RowKinds, E: Encoding, B: Bank, M: Matcher>(rt: &LibcRuntime, plan
     let kind = reading.kind;
     let place = reading.place;
     let words = reading.words.len();
-    println!(rt, "read root {root}: {len} rows of kind {kind} in {words} words from word {place} on")?;
+    println!(
+        rt,
+        "read root {root}: {len} rows of kind {kind} in {words} words from word {place} on"
+    )?;
     let mut same = 0u16;
     for (k, row) in (0..len).zip(laid) {
         let read = planner.kinds.read(kind, reading.words, len, k).value;
@@ -104,11 +118,26 @@ fn lay(rt: &LibcRuntime) -> Result<(), AnyError> {
     let heap = rt.alloc();
     let mut nodes = [Node::FREE; NODES];
     let mut words = [0; WORDS];
-    let mut planner = Planner::new(&mut nodes, &mut words, BaseKinds, Flat, EmptyBank, AnyCanonical);
+    let mut planner = Planner::new(
+        &mut nodes,
+        &mut words,
+        BaseKinds,
+        Flat,
+        EmptyBank,
+        AnyCanonical,
+    );
     let thickness = number_bytes(heap, &THICKNESS)?;
     let flaws = mark_bytes(heap, &FLAWS)?;
-    tell(rt, "make the thickness under root 0", planner.make(0, NUMBER, 8, thickness.as_slice()))?;
-    tell(rt, "make the flaw marks under root 1", planner.make(1, MARK, 8, flaws.as_slice()))?;
+    tell(
+        rt,
+        "make the thickness under root 0",
+        planner.make(0, NUMBER, 8, thickness.as_slice()),
+    )?;
+    tell(
+        rt,
+        "make the flaw marks under root 1",
+        planner.make(1, MARK, 8, flaws.as_slice()),
+    )?;
     tell_usage(rt, &planner)?;
     tell(rt, "share root 0 as root 2", planner.share(2, 0))?;
     tell(rt, "share root 1 as root 3", planner.share(3, 1))?;
@@ -132,8 +161,18 @@ fn play_again(rt: &LibcRuntime) -> Result<(), AnyError> {
     let thickness = number_bytes(heap, &THICKNESS)?;
     let flaws = mark_bytes(heap, &FLAWS)?;
     let calls = [
-        Call::Make { root: 0, kind: NUMBER, len: 8, rows: thickness.as_slice() },
-        Call::Make { root: 1, kind: MARK, len: 8, rows: flaws.as_slice() },
+        Call::Make {
+            root: 0,
+            kind: NUMBER,
+            len: 8,
+            rows: thickness.as_slice(),
+        },
+        Call::Make {
+            root: 1,
+            kind: MARK,
+            len: 8,
+            rows: flaws.as_slice(),
+        },
         Call::Share { to: 2, from: 0 },
         Call::Share { to: 3, from: 1 },
         Call::Release { root: 0 },
@@ -144,11 +183,26 @@ fn play_again(rt: &LibcRuntime) -> Result<(), AnyError> {
         Call::Release { root: 2 },
         Call::Release { root: 3 },
     ];
-    let mut tally = Tally { accepted: 0, refused: 0 };
-    replay(&mut nodes, &mut words, BaseKinds, Flat, EmptyBank, AnyCanonical, &calls, &mut tally);
+    let mut tally = Tally {
+        accepted: 0,
+        refused: 0,
+    };
+    replay(
+        &mut nodes,
+        &mut words,
+        BaseKinds,
+        Flat,
+        EmptyBank,
+        AnyCanonical,
+        &calls,
+        &mut tally,
+    );
     let accepted = tally.accepted;
     let refused = tally.refused;
-    println!(rt, "the same calls on a new planner: {accepted} accepted, {refused} refused")?;
+    println!(
+        rt,
+        "the same calls on a new planner: {accepted} accepted, {refused} refused"
+    )?;
     Ok(())
 }
 

@@ -26,7 +26,12 @@ use std::alloc::Global;
 use std::test::*;
 
 // Whether a line is answered so.
-fn answers<K: RowKinds, E: Encoding, B: Bank, M: Matcher>(heap: Global, planner: &mut Planner<'_, K, E, B, M>, line: &[u8], answer: &[u8]) -> Result<(), Fail> {
+fn answers<K: RowKinds, E: Encoding, B: Bank, M: Matcher>(
+    heap: Global,
+    planner: &mut Planner<'_, K, E, B, M>,
+    line: &[u8],
+    answer: &[u8],
+) -> Result<(), Fail> {
     let mut text = line.to_vec(heap)?;
     let mut out = Vec::new(heap);
     respond(planner, text.as_mut_slice(), &mut out)?;
@@ -38,7 +43,11 @@ fn answers<K: RowKinds, E: Encoding, B: Bank, M: Matcher>(heap: Global, planner:
 fn a_joined_kind_is_made_and_read(rt: LibcRuntime) -> Result<(), Fail> {
     let mut nodes = [Node::FREE; NODES];
     let mut words = [7; WORDS];
-    let kinds = Joined { set: BaseKinds, number: 3, kind: Wide };
+    let kinds = Joined {
+        set: BaseKinds,
+        number: 3,
+        kind: Wide,
+    };
     let mut planner = Planner::new(&mut nodes, &mut words, kinds, Flat, EmptyBank, AnyArray);
     let heap = rt.alloc();
     answers(heap, &mut planner, b"01000300020000012C000001C2", b"00")?;
@@ -72,7 +81,15 @@ fn shares_are_released_in_any_order(rt: LibcRuntime) -> Result<(), Fail> {
 
 #[test]
 fn digits_are_upper_case_pairs() -> Result<(), Fail> {
-    let table = [(*b"0904", true), (*b"AF5C", true), (*b"af5c", false), (*b"0G00", false), (*b"00 1", false), (*b"/:@G", false), (*b"090\r", false)];
+    let table = [
+        (*b"0904", true),
+        (*b"AF5C", true),
+        (*b"af5c", false),
+        (*b"0G00", false),
+        (*b"00 1", false),
+        (*b"/:@G", false),
+        (*b"090\r", false),
+    ];
     for (text, good) in table {
         let mut line = text;
         check_eq(decode(&mut line).is_some(), good)?;

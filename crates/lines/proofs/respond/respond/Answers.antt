@@ -22,12 +22,12 @@ returns-in-None g c =
     let s : State = state-of (c .args .planner .now) in
     let e : None ≡ parses.asked ks (c .args .line .now) = c .in-None .ensures tt in
     record {
-        state = ap (λ (o : Option Told). responded ks s o .1) e;
-        digits = subst (λ (o : Option Told). Wrote (c .write-answer .result) (c .args .out .now) (c .write-answer .last .out) (written ks (responded ks s o .0))) e
-            (subst (λ (a : Said). Wrote (c .write-answer .result) (c .args .out .now) (c .write-answer .last .out) (written ks a)) (c .answer .ensures) (c .write-answer .ensures .digits));
-        law = λ h r. subst (λ (o : Option Told). GoesOn ks es h s o s) e (r, history-law ks (g .K·RowKinds·met .lawful _) es (g .E·Encoding·met .lawful _ ks) h (r .answered) .1);
-        capacity = c .write-answer .ensures .capacity;
-        room = λ h r l. c .write-answer .ensures .room (subst (λ (a : Said). Short a) (sym (c .answer .ensures)) tt) l;
-        kinds = refl;
-        encodings = refl
+      state = ap (λ (o : Option Told). responded ks s o .1) e;
+      digits = subst (λ (o : Option Told). Wrote (c .write-answer .result) (c .args .out .now) (c .write-answer .last .out) (written ks (responded ks s o .0))) e
+          (subst (λ (a : Said). Wrote (c .write-answer .result) (c .args .out .now) (c .write-answer .last .out) (written ks a)) (c .answer .ensures) (c .write-answer .ensures .digits));
+      law = λ h r. subst (λ (o : Option Told). GoesOn ks es h s o s) e (r, history-law ks (g .K·RowKinds·met .lawful _) es (g .E·Encoding·met .lawful _ ks) h (r .answered) .1);
+      capacity = c .write-answer .ensures .capacity;
+      room = λ h r l. c .write-answer .ensures .room (subst (λ (a : Said). Short a) (sym (c .answer .ensures)) tt) l;
+      kinds = refl;
+      encodings = refl;
     }

@@ -22,12 +22,12 @@ pub returns-in-None : need.returns-in-None
 returns-in-None g c =
     let kd : Kind = g .K·RowKinds .kinds (c .args .kinds .now) .kind (c .args .kind) in
     let none : kd .parsed (take (kd .width) (drop (c .loop-k .k * kd .width) (c .args .rows .now))) ≡ None
-        = sym (c .in-None .ensures tt ∙ row-bytes kd (c .loop-k .k) (c .width-width .result) (c .args .rows .now) (c .width-width .ensures)) in
+    = sym (c .in-None .ensures tt ∙ row-bytes kd (c .loop-k .k) (c .width-width .result) (c .args .rows .now) (c .width-width .ensures)) in
     sym (sym (c .loop-k .inv) ∙ parse-stops kd (c .args .len) (c .args .rows .now) (c .loop-k .k) (c .loop-k-test .taken) none)
 
 pub loop-k-again : need.loop-k-again
 loop-k-again g c =
     let kd : Kind = g .K·RowKinds .kinds (c .args .kinds .now) .kind (c .args .kind) in
     let some : kd .parsed (take (kd .width) (drop (c .loop-k .k * kd .width) (c .args .rows .now))) ≡ Some (c .in-rest .field-0)
-        = sym (c .in-rest .ensures tt ∙ row-bytes kd (c .loop-k .k) (c .width-width .result) (c .args .rows .now) (c .width-width .ensures)) in
+    = sym (c .in-rest .ensures tt ∙ row-bytes kd (c .loop-k .k) (c .width-width .result) (c .args .rows .now) (c .width-width .ensures)) in
     parse-goes kd (c .args .len) (c .args .rows .now) (c .loop-k .k) (c .loop-k-test .taken) (c .in-rest .field-0) some ∙ c .loop-k .inv

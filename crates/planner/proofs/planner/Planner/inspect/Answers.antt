@@ -19,8 +19,9 @@ loop-root-again g c =
     let i : ℕ = c .loop-root .root-index in
     let long : length rs ≡ 32 = c .args .self .now .«roots_long» in
     elim (c .match-root .came) [
-      in-Some w ↦ let m = used-more rs i _ (omega arith) (w .in-Some .is) in (omega (arith, w .roots-is, c .loop-root .inv .0), omega (arith, w .roots-is, c .loop-root .inv .1))
-    | in-rest w ↦ let m = used-more rs i _ (omega arith) (w .in-rest .is) in (omega (arith, w .roots-is, c .loop-root .inv .0), omega (arith, w .roots-is, c .loop-root .inv .1)) ]
+      | in-Some w ↦ let m = used-more rs i _ (omega arith) (w .in-Some .is) in (omega (arith, w .roots-is, c .loop-root .inv .0), omega (arith, w .roots-is, c .loop-root .inv .1))
+      | in-rest w ↦ let m = used-more rs i _ (omega arith) (w .in-rest .is) in (omega (arith, w .roots-is, c .loop-root .inv .0), omega (arith, w .roots-is, c .loop-root .inv .1))
+    ]
 
 pub returns : need.returns
 returns g c =
@@ -28,8 +29,8 @@ returns g c =
     let long : length rs ≡ 32 = c .args .self .now .«roots_long» in
     let none : roots-used (drop (c .loop-root .root-index) rs) ≡ 0 = ap (λ (l : List (Option ℕ)). roots-used l) (drop-all (c .loop-root .root-index) rs (omega arith)) in
     record {
-        roots = omega (arith, c .loop-root .inv .0);
-        nodes = c .nodes-used .ensures;
-        words = c .words-used .ensures;
-        law = λ h r. history-law _ (g .K·RowKinds·met .lawful _) _ (g .E·Encoding·met .lawful _ _) h (r .answered) .1
+      roots = omega (arith, c .loop-root .inv .0);
+      nodes = c .nodes-used .ensures;
+      words = c .words-used .ensures;
+      law = λ h r. history-law _ (g .K·RowKinds·met .lawful _) _ (g .E·Encoding·met .lawful _ _) h (r .answered) .1;
     }

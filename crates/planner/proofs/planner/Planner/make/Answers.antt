@@ -36,10 +36,10 @@ returns-then-not-is-sized g c =
     let s : State = state-of (c .args .self .now) in
     let ks : Kinds = g .K·RowKinds .kinds (c .args .self .now .kinds) in
     record {
-        does = does _ _ (g .K·RowKinds·met .lawful _) (g .E·Encoding·met .lawful _ _) s s _ _
-            (made-is ks s (c .args .root) (c .args .kind) (c .args .len) (c .args .rows .now) false (ltb (c .args .root) 32) (root-at s (c .args .root)) (rows-made ks (c .args .kind) (c .args .len) (c .args .rows .now)) (sym (c .if-not-is-sized .ensures tt)) refl refl refl);
-        kinds = refl;
-        encodings = refl
+      does = does _ _ (g .K·RowKinds·met .lawful _) (g .E·Encoding·met .lawful _ _) s s _ _
+          (made-is ks s (c .args .root) (c .args .kind) (c .args .len) (c .args .rows .now) false (ltb (c .args .root) 32) (root-at s (c .args .root)) (rows-made ks (c .args .kind) (c .args .len) (c .args .rows .now)) (sym (c .if-not-is-sized .ensures tt)) refl refl refl);
+      kinds = refl;
+      encodings = refl;
     }
 
 pub returns-then-root-ge-ROOTS : need.returns-then-root-ge-ROOTS
@@ -47,10 +47,10 @@ returns-then-root-ge-ROOTS g c =
     let s : State = state-of (c .args .self .now) in
     let ks : Kinds = g .K·RowKinds .kinds (c .args .self .now .kinds) in
     record {
-        does = does _ _ (g .K·RowKinds·met .lawful _) (g .E·Encoding·met .lawful _ _) s s _ _
-            (made-is ks s (c .args .root) (c .args .kind) (c .args .len) (c .args .rows .now) true false (root-at s (c .args .root)) (rows-made ks (c .args .kind) (c .args .len) (c .args .rows .now)) (sym (c .if-not-is-sized .ensures tt)) (le-ltb (c .args .root) 32 (c .if-root-ge-ROOTS .taken)) refl refl);
-        kinds = refl;
-        encodings = refl
+      does = does _ _ (g .K·RowKinds·met .lawful _) (g .E·Encoding·met .lawful _ _) s s _ _
+          (made-is ks s (c .args .root) (c .args .kind) (c .args .len) (c .args .rows .now) true false (root-at s (c .args .root)) (rows-made ks (c .args .kind) (c .args .len) (c .args .rows .now)) (sym (c .if-not-is-sized .ensures tt)) (le-ltb (c .args .root) 32 (c .if-root-ge-ROOTS .taken)) refl refl);
+      kinds = refl;
+      encodings = refl;
     }
 
 pub returns-then-is-some : need.returns-then-is-some
@@ -59,11 +59,11 @@ returns-then-is-some g c =
     let ks : Kinds = g .K·RowKinds .kinds (c .args .self .now .kinds) in
     let rs : Option (List Row) = rows-made ks (c .args .kind) (c .args .len) (c .args .rows .now) in
     record {
-        does = does _ _ (g .K·RowKinds·met .lawful _) (g .E·Encoding·met .lawful _ _) s s _ _
-            (taken-by (refused RootTaken, s) (make-by ks s (c .args .root) (c .args .kind) (c .args .len) true true None rs) (c .root .result) (sym (c .if-is-some .ensures tt))
-            ∙ made-is ks s (c .args .root) (c .args .kind) (c .args .len) (c .args .rows .now) true true (c .root .result) rs (sym (c .if-not-is-sized .ensures tt)) (lt-ltb (c .args .root) 32 (c .if-root-ge-ROOTS .left)) (c .root .ensures) refl);
-        kinds = refl;
-        encodings = refl
+      does = does _ _ (g .K·RowKinds·met .lawful _) (g .E·Encoding·met .lawful _ _) s s _ _
+          (taken-by (refused RootTaken, s) (make-by ks s (c .args .root) (c .args .kind) (c .args .len) true true None rs) (c .root .result) (sym (c .if-is-some .ensures tt))
+          ∙ made-is ks s (c .args .root) (c .args .kind) (c .args .len) (c .args .rows .now) true true (c .root .result) rs (sym (c .if-not-is-sized .ensures tt)) (lt-ltb (c .args .root) 32 (c .if-root-ge-ROOTS .left)) (c .root .ensures) refl);
+      kinds = refl;
+      encodings = refl;
     }
 
 pub returns-then-not-are-rows : need.returns-then-not-are-rows
@@ -71,11 +71,11 @@ returns-then-not-are-rows g c =
     let s : State = state-of (c .args .self .now) in
     let ks : Kinds = g .K·RowKinds .kinds (c .args .self .now .kinds) in
     record {
-        does = does _ _ (g .K·RowKinds·met .lawful _) (g .E·Encoding·met .lawful _ _) s s _ _
-            (made-is ks s (c .args .root) (c .args .kind) (c .args .len) (c .args .rows .now) true true None None (sym (c .if-not-is-sized .ensures tt)) (lt-ltb (c .args .root) 32 (c .if-root-ge-ROOTS .left))
-                (c .root .ensures ∙ empty-by (c .root .result) (sym (c .if-is-some .ensures tt))) (made-none ks (c .args .kind) (c .args .len) (c .args .rows .now) (sym (c .if-not-are-rows .ensures tt))));
-        kinds = refl;
-        encodings = refl
+      does = does _ _ (g .K·RowKinds·met .lawful _) (g .E·Encoding·met .lawful _ _) s s _ _
+          (made-is ks s (c .args .root) (c .args .kind) (c .args .len) (c .args .rows .now) true true None None (sym (c .if-not-is-sized .ensures tt)) (lt-ltb (c .args .root) 32 (c .if-root-ge-ROOTS .left))
+          (c .root .ensures ∙ empty-by (c .root .result) (sym (c .if-is-some .ensures tt))) (made-none ks (c .args .kind) (c .args .len) (c .args .rows .now) (sym (c .if-not-are-rows .ensures tt))));
+      kinds = refl;
+      encodings = refl;
     }
 
 pub build-requires : need.build-requires
@@ -83,9 +83,9 @@ build-requires g c κs =
     let ks : Kinds = g .K·RowKinds .kinds (c .args .self .now .kinds) in
     let known = made-known ks (c .args .kind) (c .args .len) (c .args .rows .now) (sym (c .if-not-are-rows .ensures tt)) in
     record {
-        sized = (c .args .self .now .«nodes_long», (c .args .self .now .«words_long», few-rows ks (c .args .kind) (c .args .len) (c .args .rows .now) (known .0)));
-        bytes = made-sized ks (c .args .kind) (c .args .len) (c .args .rows .now) (sym (c .if-not-is-sized .ensures tt)) (known .0);
-        parse = known .1
+      sized = (c .args .self .now .«nodes_long», (c .args .self .now .«words_long», few-rows ks (c .args .kind) (c .args .len) (c .args .rows .now) (known .0)));
+      bytes = made-sized ks (c .args .kind) (c .args .len) (c .args .rows .now) (sym (c .if-not-is-sized .ensures tt)) (known .0);
+      parse = known .1;
     }
 
 pub ghost-self : need.ghost-self
@@ -94,9 +94,9 @@ ghost-self g c =
     let m : Memory = state-of (c .args .self .now) .memory in
     let known = made-known ks (c .args .kind) (c .args .len) (c .args .rows .now) (sym (c .if-not-are-rows .ensures tt)) in
     let e : (Err (c .in-Break-node .field-0 .0), memory-of (c .build .last .pool)) ≡ built ks m (c .args .kind) (c .args .len) (rows-parsed (ks .kind (c .args .kind)) (c .args .len) (c .args .rows .now))
-        = ap (λ (r : Result ℕ PoolFault). (r, memory-of (c .build .last .pool))) (sym (c .in-Break-node .was tt)) ∙ c .build .ensures in
+    = ap (λ (r : Result ℕ PoolFault). (r, memory-of (c .build .last .pool))) (sym (c .in-Break-node .was tt)) ∙ c .build .ensures in
     let same : memory-of (c .build .last .pool) ≡ m
-        = build-kept ks (c .args .kind) (c .args .len) (c .args .rows .now) m (c .args .self .now .roots) (ordered-of (c .args .self .now)) (g .K·RowKinds·met .lawful (c .args .self .now .kinds) .lawful (c .args .kind)) (known .1) (c .in-Break-node .field-0 .0) (memory-of (c .build .last .pool)) e in
+    = build-kept ks (c .args .kind) (c .args .len) (c .args .rows .now) m (c .args .self .now .roots) (ordered-of (c .args .self .now)) (g .K·RowKinds·met .lawful (c .args .self .now .kinds) .lawful (c .args .kind)) (known .1) (c .in-Break-node .field-0 .0) (memory-of (c .build .last .pool)) e in
     subst (λ (x : Memory). Ghosts x (c .args .self .now .roots)) (sym same) (ghosts-of m (c .args .self .now .roots) (c .args .self .now .«roots_long») (ordered-of (c .args .self .now)))
 
 pub returns-in-Break-node : need.returns-in-Break-node
@@ -107,15 +107,15 @@ returns-in-Break-node g c =
     let rs : List Row = rows-parsed (ks .kind (c .args .kind)) (c .args .len) (c .args .rows .now) in
     let known = made-known ks (c .args .kind) (c .args .len) (c .args .rows .now) (sym (c .if-not-are-rows .ensures tt)) in
     let e : (Err (c .in-Break-node .field-0 .0), memory-of (c .build .last .pool)) ≡ built ks (s .memory) (c .args .kind) (c .args .len) rs
-        = ap (λ (r : Result ℕ PoolFault). (r, memory-of (c .build .last .pool))) (sym (c .in-Break-node .was tt)) ∙ c .build .ensures in
+    = ap (λ (r : Result ℕ PoolFault). (r, memory-of (c .build .last .pool))) (sym (c .in-Break-node .was tt)) ∙ c .build .ensures in
     record {
-        does = does _ _ (g .K·RowKinds·met .lawful _) (g .E·Encoding·met .lawful _ _) s _ _ _
-            (ap (λ (a : Said). (a, record { memory = memory-of (c .build .last .pool); roots = s .roots })) (ap (λ r. outcome r) (p .1) ∙ ap (λ x. refused x) (p .2))
-            ∙ ap (λ (b : Result ℕ PoolFault × Memory). placed s (c .args .root) b) e
-            ∙ made-is ks s (c .args .root) (c .args .kind) (c .args .len) (c .args .rows .now) true true None (Some rs) (sym (c .if-not-is-sized .ensures tt)) (lt-ltb (c .args .root) 32 (c .if-root-ge-ROOTS .left))
-                (c .root .ensures ∙ empty-by (c .root .result) (sym (c .if-is-some .ensures tt))) (rows-known ks (c .args .kind) (c .args .len) (c .args .rows .now) (known .0) (known .1)));
-        kinds = refl;
-        encodings = refl
+      does = does _ _ (g .K·RowKinds·met .lawful _) (g .E·Encoding·met .lawful _ _) s _ _ _
+          (ap (λ (a : Said). (a, record { memory = memory-of (c .build .last .pool); roots = s .roots })) (ap (λ r. outcome r) (p .1) ∙ ap (λ x. refused x) (p .2))
+          ∙ ap (λ (b : Result ℕ PoolFault × Memory). placed s (c .args .root) b) e
+          ∙ made-is ks s (c .args .root) (c .args .kind) (c .args .len) (c .args .rows .now) true true None (Some rs) (sym (c .if-not-is-sized .ensures tt)) (lt-ltb (c .args .root) 32 (c .if-root-ge-ROOTS .left))
+          (c .root .ensures ∙ empty-by (c .root .result) (sym (c .if-is-some .ensures tt))) (rows-known ks (c .args .kind) (c .args .len) (c .args .rows .now) (known .0) (known .1)));
+      kinds = refl;
+      encodings = refl;
     }
 
 pub ghost-self-2 : need.ghost-self-2
@@ -125,11 +125,11 @@ ghost-self-2 g c =
     let long : length (c .args .self .now .roots) ≡ 32 = c .args .self .now .«roots_long» in
     let known = made-known ks (c .args .kind) (c .args .len) (c .args .rows .now) (sym (c .if-not-are-rows .ensures tt)) in
     let e : (Ok (c .in-Continue-node .node), memory-of (c .build .last .pool)) ≡ built ks m (c .args .kind) (c .args .len) (rows-parsed (ks .kind (c .args .kind)) (c .args .len) (c .args .rows .now))
-        = ap (λ (r : Result ℕ PoolFault). (r, memory-of (c .build .last .pool))) (sym (c .in-Continue-node .was tt)) ∙ c .build .ensures in
+    = ap (λ (r : Result ℕ PoolFault). (r, memory-of (c .build .last .pool))) (sym (c .in-Continue-node .was tt)) ∙ c .build .ensures in
     ghosts-of (memory-of (c .build .last .pool)) (set (c .args .self .now .roots) (c .args .root) (Some (c .in-Continue-node .node)))
-      (length-set (c .args .self .now .roots) (c .args .root) (Some (c .in-Continue-node .node)) ∙ long)
-      (build-ordered ks (c .args .kind) (c .args .len) (c .args .rows .now) m (c .args .self .now .roots) (ordered-of (c .args .self .now)) (g .K·RowKinds·met .lawful (c .args .self .now .kinds) .lawful (c .args .kind)) (known .1)
-        (c .in-Continue-node .node) (memory-of (c .build .last .pool)) (c .args .root) e (omega arith) (c .root .ensures ∙ empty-by (c .root .result) (sym (c .if-is-some .ensures tt))))
+    (length-set (c .args .self .now .roots) (c .args .root) (Some (c .in-Continue-node .node)) ∙ long)
+    (build-ordered ks (c .args .kind) (c .args .len) (c .args .rows .now) m (c .args .self .now .roots) (ordered-of (c .args .self .now)) (g .K·RowKinds·met .lawful (c .args .self .now .kinds) .lawful (c .args .kind)) (known .1)
+    (c .in-Continue-node .node) (memory-of (c .build .last .pool)) (c .args .root) e (omega arith) (c .root .ensures ∙ empty-by (c .root .result) (sym (c .if-is-some .ensures tt))))
 
 pub returns : need.returns
 returns g c =
@@ -138,12 +138,12 @@ returns g c =
     let rs : List Row = rows-parsed (ks .kind (c .args .kind)) (c .args .len) (c .args .rows .now) in
     let known = made-known ks (c .args .kind) (c .args .len) (c .args .rows .now) (sym (c .if-not-are-rows .ensures tt)) in
     let e : (Ok (c .in-Continue-node .node), memory-of (c .build .last .pool)) ≡ built ks (s .memory) (c .args .kind) (c .args .len) rs
-        = ap (λ (r : Result ℕ PoolFault). (r, memory-of (c .build .last .pool))) (sym (c .in-Continue-node .was tt)) ∙ c .build .ensures in
+    = ap (λ (r : Result ℕ PoolFault). (r, memory-of (c .build .last .pool))) (sym (c .in-Continue-node .was tt)) ∙ c .build .ensures in
     record {
-        does = does _ _ (g .K·RowKinds·met .lawful _) (g .E·Encoding·met .lawful _ _) s _ _ _
-            (ap (λ (b : Result ℕ PoolFault × Memory). placed s (c .args .root) b) e
-            ∙ made-is ks s (c .args .root) (c .args .kind) (c .args .len) (c .args .rows .now) true true None (Some rs) (sym (c .if-not-is-sized .ensures tt)) (lt-ltb (c .args .root) 32 (c .if-root-ge-ROOTS .left))
-                (c .root .ensures ∙ empty-by (c .root .result) (sym (c .if-is-some .ensures tt))) (rows-known ks (c .args .kind) (c .args .len) (c .args .rows .now) (known .0) (known .1)));
-        kinds = refl;
-        encodings = refl
+      does = does _ _ (g .K·RowKinds·met .lawful _) (g .E·Encoding·met .lawful _ _) s _ _ _
+          (ap (λ (b : Result ℕ PoolFault × Memory). placed s (c .args .root) b) e
+          ∙ made-is ks s (c .args .root) (c .args .kind) (c .args .len) (c .args .rows .now) true true None (Some rs) (sym (c .if-not-is-sized .ensures tt)) (lt-ltb (c .args .root) 32 (c .if-root-ge-ROOTS .left))
+          (c .root .ensures ∙ empty-by (c .root .result) (sym (c .if-is-some .ensures tt))) (rows-known ks (c .args .kind) (c .args .len) (c .args .rows .now) (known .0) (known .1)));
+      kinds = refl;
+      encodings = refl;
     }

@@ -14,5 +14,5 @@ ghost-result g c = subst (λ (m : Memory). Ghosts m (replicate 32 None)) (sym (c
 pub returns : need.returns
 returns g c =
     let e : record { memory = record { nodes = c .new-pool .result .nodes .now; words = c .new-pool .result .words .now }; roots = replicate 32 None } ≡ new-state
-        = ap (λ (m : Memory). record { memory = m; roots = replicate 32 None }) (c .new-pool .ensures) in
+    = ap (λ (m : Memory). record { memory = m; roots = replicate 32 None }) (c .new-pool .ensures) in
     record { state = e; reached = record { answered = tt; here = sym e }; kinds = refl; encodings = refl }

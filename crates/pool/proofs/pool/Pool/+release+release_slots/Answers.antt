@@ -43,11 +43,16 @@ release-release-slots-requires t c κs =
     let n : ℕ = c .args .n in
     let s = code-sound m n (c .pre .owed) (c .pre .falling) (c .pre .within) in
     let g = last-good m n (c .pre .owed .0) s (c .if-node-ne1 .left) in
-    let e = filled (m .words) (c .fill .last .self) (startAt (m .nodes) n) (runAt (m .nodes) n) (c .pre .within n) (c .fill .ensures .after (λ y q. q)) in
-    ( omega (arith, last-low m n (c .pre .owed .0) s (c .if-node-ne1 .left), c .measured)
-    , ( (c .pre .owed .0, g .sound .counts)
-      , ( g .sound .falling
-        , subst (λ (ws : List ℕ). Within (vacated m n .nodes) ws) (sym e) (g .sound .within) ) ) )
+    let e = filled (m .words) (c .fill .last .self) (startAt (m .nodes) n) (runAt (m .nodes) n) (c .pre .within n) (c .fill .ensures .after (λ y q. q)) in (
+      omega (arith, last-low m n (c .pre .owed .0) s (c .if-node-ne1 .left), c .measured),
+      (
+        (c .pre .owed .0, g .sound .counts),
+        (
+          g .sound .falling,
+          subst (λ (ws : List ℕ). Within (vacated m n .nodes) ws) (sym e) (g .sound .within),
+        ),
+      ),
+    )
 
 pub release-returns : need.release-returns
 release-returns t c =
@@ -55,7 +60,7 @@ release-returns t c =
     let n : ℕ = c .args .n in
     let e = filled (m .words) (c .fill .last .self) (startAt (m .nodes) n) (runAt (m .nodes) n) (c .pre .within n) (c .fill .ensures .after (λ y q. q)) in
     code-last m n (c .pre .owed) (c .pre .falling) (c .pre .within) (memory-of (c .release-slots .last .self)) (c .if-node-ne1 .left)
-        (λ f h. c .release-slots .ensures f h ∙ ap (λ (ws : List ℕ). each-slot (released f) (with-words (vacated m n) ws) (slotsAt (m .nodes) n)) e)
+    (λ f h. c .release-slots .ensures f h ∙ ap (λ (ws : List ℕ). each-slot (released f) (with-words (vacated m n) ws) (slotsAt (m .nodes) n)) e)
 
 -- what is left at an index, by the slot there
 at : (entry m : Memory) (all : List (Option ℕ)) (i : ℕ) (s : Option ℕ) → Left entry m all (drop i all) → i < length all → getD all i None ≡ s → Left entry m all (s ∷ drop (i + 1) all)
@@ -68,9 +73,10 @@ release-slots-release-requires t c κs =
     let all : List (Option ℕ) = c .args .slots in
     let i : ℕ = c .loop-slot .slot-index in
     let child : ℕ = c .in-Some .child in
-    let l = at entry m all i (Some child) (c .loop-slot .inv) (omega arith) (c .in-Some .is) in
-    ( omega (arith, slot-low entry m all (drop (i + 1) all) child l, c .measured)
-    , (slot-owed entry m all (drop (i + 1) all) child l, (c .loop-slot .inv .falling, c .loop-slot .inv .within)) )
+    let l = at entry m all i (Some child) (c .loop-slot .inv) (omega arith) (c .in-Some .is) in (
+      omega (arith, slot-low entry m all (drop (i + 1) all) child l, c .measured),
+      (slot-owed entry m all (drop (i + 1) all) child l, (c .loop-slot .inv .falling, c .loop-slot .inv .within)),
+    )
 
 pub release-slots-loop-slot-again : need.release-slots-loop-slot-again
 release-slots-loop-slot-again t c =
@@ -81,11 +87,11 @@ release-slots-loop-slot-again t c =
     let rest : List (Option ℕ) = drop (i + 1) all in
     let lt : i < length all = omega arith in
     elim (c .match-slot .came) [
-      release-slots-in-Some w ↦
-        subst (λ (p : Pool). Left entry (memory-of p) all rest) (sym (w .self-is))
+      | release-slots-in-Some w ↦
+          subst (λ (p : Pool). Left entry (memory-of p) all rest) (sym (w .self-is))
           (left-some entry m all rest (w .in-Some .child) (at entry m all i (Some (w .in-Some .child)) (c .loop-slot .inv) lt (w .in-Some .is)) (memory-of (w .release .last .self)) (w .release .ensures))
-    | release-slots-in-rest w ↦
-        subst (λ (p : Pool). Left entry (memory-of p) all rest) (sym (w .self-is))
+      | release-slots-in-rest w ↦
+          subst (λ (p : Pool). Left entry (memory-of p) all rest) (sym (w .self-is))
           (left-none entry m all rest (at entry m all i None (c .loop-slot .inv) lt (w .in-rest .is)))
     ]
 

@@ -19,14 +19,14 @@ pub returns-in-None : need.returns-in-None
 returns-in-None c =
     let e = c .loop-at .inv .1 ∙ run-here (memory-of (c .args .self .now)) (c .args .n) (c .loop-at .at) (c .loop-at-test .taken) (c .in-None .ensures tt) in
     record {
-        value = sym e;
-        lowest = subst (λ (o : Option ℕ). Lowest (memory-of (c .args .self .now)) (c .args .n) o) e (find-run-is (memory-of (c .args .self .now)) (c .args .n))
+      value = sym e;
+      lowest = subst (λ (o : Option ℕ). Lowest (memory-of (c .args .self .now)) (c .args .n) o) e (find-run-is (memory-of (c .args .self .now)) (c .args .n));
     }
 
 pub returns : need.returns
 returns c =
     let e = c .loop-at .inv .1 ∙ run-past (memory-of (c .args .self .now)) (c .args .n) (c .loop-at .at) (c .loop-at-test .left) in
     record {
-        value = sym e;
-        lowest = subst (λ (o : Option ℕ). Lowest (memory-of (c .args .self .now)) (c .args .n) o) e (find-run-is (memory-of (c .args .self .now)) (c .args .n))
+      value = sym e;
+      lowest = subst (λ (o : Option ℕ). Lowest (memory-of (c .args .self .now)) (c .args .n) o) e (find-run-is (memory-of (c .args .self .now)) (c .args .n));
     }

@@ -9,8 +9,8 @@ pub returns-then-node-eq0 : need.returns-then-node-eq0
 returns-then-node-eq0 c =
     let e = c .loop-i .inv ∙ free-here (c .args .self .now .nodes .now) (c .loop-i .i) _ (c .loop-i-test .taken) (c .if-node-eq0 .taken) in
     record {
-        value = sym e;
-        lowest = subst (λ (o : Option ℕ). LowestNode (c .args .self .now .nodes .now) o) e (lowest-free-is (c .args .self .now .nodes .now))
+      value = sym e;
+      lowest = subst (λ (o : Option ℕ). LowestNode (c .args .self .now .nodes .now) o) e (lowest-free-is (c .args .self .now .nodes .now));
     }
 
 pub loop-i-again : need.loop-i-again
@@ -20,6 +20,6 @@ pub returns : need.returns
 returns c =
     let e = c .loop-i .inv ∙ free-none (c .args .self .now .nodes .now) (c .loop-i .i) (c .loop-i-test .left) in
     record {
-        value = sym e;
-        lowest = subst (λ (o : Option ℕ). LowestNode (c .args .self .now .nodes .now) o) e (lowest-free-is (c .args .self .now .nodes .now))
+      value = sym e;
+      lowest = subst (λ (o : Option ℕ). LowestNode (c .args .self .now .nodes .now) o) e (lowest-free-is (c .args .self .now .nodes .now));
     }

@@ -23,12 +23,12 @@ retain-slots-requires c κs =
     let hs : List ℕ = c .pre .owed .0 in
     let u = owed-used (m .nodes) n hs (c .pre .owed .1) in
     record {
-        used = less-slots m n hs (c .pre .owed .1) (omega arith);
-        room = λ k.
-            ⊎-elim
-                (λ q. omega (arith, q .1, c .pre .room n))
-                (λ q. omega (arith, q .1, c .pre .room k))
-                (recount-cases (m .nodes) n (countAt (m .nodes) n - 1) (owed-in (m .nodes) n hs (c .pre .owed .1)) k)
+      used = less-slots m n hs (c .pre .owed .1) (omega arith);
+      room = λ k.
+          ⊎-elim
+          (λ q. omega (arith, q .1, c .pre .room n))
+          (λ q. omega (arith, q .1, c .pre .room k))
+          (recount-cases (m .nodes) n (countAt (m .nodes) n - 1) (owed-in (m .nodes) n hs (c .pre .owed .1)) k);
     }
 
 pub index-self-copy : need.index-self-copy

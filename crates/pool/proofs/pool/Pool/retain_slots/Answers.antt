@@ -20,7 +20,7 @@ use Rattle.pool.proofs.pool.Pool.retain_slots.Needs.{in-Some, in-rest}
 at : (entry m : Memory) (all : List (Option ℕ)) (i : ℕ) (s : Option ℕ) → Retaining entry m all (drop i all) (8 - i) → i < length all → i < 8 → getD all i None ≡ s → Retaining entry m all (s ∷ drop (i + 1) all) (suc (8 - (i + 1)))
 at entry m all i s l h b e =
     subst (λ (r : List (Option ℕ)). Retaining entry m all r (suc (8 - (i + 1)))) (drop-more all i None h ∙ ap (λ (o : Option ℕ). o ∷ drop (i + 1) all) e)
-        (subst (λ (x : ℕ). Retaining entry m all (drop i all) x) (omega arith) l)
+    (subst (λ (x : ℕ). Retaining entry m all (drop i all) x) (omega arith) l)
 
 pub loop-slot-holds : need.loop-slot-holds
 loop-slot-holds c = record { used = c .pre .used; room = c .pre .room; gives = refl }
@@ -33,8 +33,8 @@ retain-requires c κs =
     let child : ℕ = c .in-Some .child in
     let r = at entry m (c .args .slots) i (Some child) (c .loop-slot .inv) (omega arith) (omega arith) (c .in-Some .is) in
     record {
-        used = r .used child (times-here child (names (drop (i + 1) (c .args .slots))));
-        room = omega (arith, r .room child)
+      used = r .used child (times-here child (names (drop (i + 1) (c .args .slots))));
+      room = omega (arith, r .room child);
     }
 
 pub loop-slot-again : need.loop-slot-again
@@ -45,11 +45,11 @@ loop-slot-again c =
     let i : ℕ = c .loop-slot .slot-index in
     let rest : List (Option ℕ) = drop (i + 1) all in
     elim (c .match-slot .came) [
-      in-Some w ↦
-        subst (λ (x : Memory). Retaining entry x all rest (8 - (i + 1))) (sym (ap (λ (p : Pool). memory-of p) (w .self-is) ∙ w .retain .ensures))
+      | in-Some w ↦
+          subst (λ (x : Memory). Retaining entry x all rest (8 - (i + 1))) (sym (ap (λ (p : Pool). memory-of p) (w .self-is) ∙ w .retain .ensures))
           (retaining-some entry m all rest (8 - (i + 1)) (w .in-Some .child) (at entry m all i (Some (w .in-Some .child)) (c .loop-slot .inv) (omega arith) (omega arith) (w .in-Some .is)))
-    | in-rest w ↦
-        subst (λ (x : Memory). Retaining entry x all rest (8 - (i + 1))) (sym (ap (λ (p : Pool). memory-of p) (w .self-is)))
+      | in-rest w ↦
+          subst (λ (x : Memory). Retaining entry x all rest (8 - (i + 1))) (sym (ap (λ (p : Pool). memory-of p) (w .self-is)))
           (retaining-none entry m all rest (8 - (i + 1)) (at entry m all i None (c .loop-slot .inv) (omega arith) (omega arith) (w .in-rest .is)))
     ]
 

@@ -25,8 +25,8 @@ loop-slot-again c =
     let all : List (Option ℕ) = c .args .slots in
     let i : ℕ = c .loop-slot .slot-index in
     elim (c .match-slot .came) [
-      in-Some w ↦ omega (arith, c .loop-slot .inv, at ns all i (Some (w .in-Some .child)) (omega arith) (w .in-Some .is), w .height-is, w .max-height .ensures)
-    | in-rest w ↦ omega (arith, c .loop-slot .inv, at ns all i None (omega arith) (w .in-rest .is), w .height-is)
+      | in-Some w ↦ omega (arith, c .loop-slot .inv, at ns all i (Some (w .in-Some .child)) (omega arith) (w .in-Some .is), w .height-is, w .max-height .ensures)
+      | in-rest w ↦ omega (arith, c .loop-slot .inv, at ns all i None (omega arith) (w .in-rest .is), w .height-is)
     ]
 
 pub returns : need.returns
