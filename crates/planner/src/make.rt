@@ -7,8 +7,8 @@ ghost use Rattle.pool.specs.Building.{built};
 ghost use Rattle.pool.specs.Seen.{memory-of};
 ghost use Rattle.planner.specs.Called.{in-range, sized, parsed-rows, rows-made};
 ghost use Rattle.planner.specs.Calls.{make};
-ghost use Rattle.planner.specs.Contract.{outcome, rows-parsed, Does};
-ghost use Rattle.planner.specs.Seen.{state-of};
+ghost use Rattle.planner.specs.Contract.{outcome, rows-parsed};
+ghost use Rattle.planner.specs.Seen.{Answers};
 use crate::call::Refusal;
 use crate::call::RefusalFromPool;
 use crate::planner::Planner;
@@ -93,9 +93,7 @@ fn build<K: RowKinds>(
 impl<K: RowKinds, E: Encoding, B: Bank, M: Matcher> Planner<'_, K, E, B, M> {
     // Puts a Flat array of `len` rows of a kind, as the bytes stand for them, under a root.
     pub fn make(&mut self, root: u8, kind: u8, len: u16, rows: &[u8]) -> Result<(), Refusal>
-        ensures does { λ r. ⌜ Does (K·RowKinds .kinds (now (self .entry) .kinds)) (E·Encoding .means (now (self .entry) .encodings) (K·RowKinds .kinds (now (self .entry) .kinds))) (state-of (now (self .entry))) (make root kind len (now (rows .entry))) (outcome r) (state-of (now (self .exit))) ⌝ }
-        ensures kinds { λ _. ⌜ now (self .exit) .kinds ≡ now (self .entry) .kinds ⌝ }
-        ensures encodings { λ _. ⌜ now (self .exit) .encodings ≡ now (self .entry) .encodings ⌝ }
+        ensures { λ r. ⌜ Answers (K·RowKinds .kinds) (E·Encoding .means) (now (self .entry)) (now (self .exit)) (make root kind len (now (rows .entry))) (outcome r) ⌝ }
     {
         if !is_sized(&self.kinds, kind, len, rows) {
             return Err(Refusal::Line);

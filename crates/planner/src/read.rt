@@ -2,9 +2,9 @@ ghost use mathlib.Core.Path.{_≡_};
 ghost use Prim.Native.Nat.{ℕ, _<_};
 ghost use Rattle.pool.specs.Seen.{nodes-used, words-used};
 ghost use Rattle.planner.specs.Calls.{read};
-ghost use Rattle.planner.specs.Contract.{read-outcome, Does, roots-used};
+ghost use Rattle.planner.specs.Contract.{read-outcome, roots-used};
 ghost use Rattle.planner.specs.Law.{History, Reached, Law};
-ghost use Rattle.planner.specs.Seen.{state-of};
+ghost use Rattle.planner.specs.Seen.{state-of, Answers};
 use crate::call::Reading;
 use crate::call::Refusal;
 use crate::planner::Planner;
@@ -26,7 +26,7 @@ pub struct Usage {
 impl<K: RowKinds, E: Encoding, B: Bank, M: Matcher> Planner<'_, K, E, B, M> {
     // The run of words of the Flat array under a root, as it lies in the pool.
     pub fn read(&self, root: u8) -> Result<Reading<'_>, Refusal>
-        ensures { λ r. ⌜ Does (K·RowKinds .kinds (now (self .entry) .kinds)) (E·Encoding .means (now (self .entry) .encodings) (K·RowKinds .kinds (now (self .entry) .kinds))) (state-of (now (self .entry))) (read root) (read-outcome r) (state-of (now (self .entry))) ⌝ }
+        ensures { λ r. ⌜ Answers (K·RowKinds .kinds) (E·Encoding .means) (now (self .entry)) (now (self .entry)) (read root) (read-outcome r) ⌝ }
     {
         if root as usize >= ROOTS {
             return Err(Refusal::RootRange);

@@ -15,7 +15,7 @@ returns g c =
     let ks : Kinds = g .K·RowKinds .kinds (c .args .planner .now .kinds) in
     let es : Encodings = g .E·Encoding .means (c .args .planner .now .encodings) ks in
     let s : State = state-of (c .args .planner .now) in
-    let d = c .read-result .ensures in
+    let d = c .read-result .ensures .does in
     record {
       digits = subst (λ (a : Said). Wrote (c .write-answer .result) (c .args .out .now) (c .write-answer .last .out) (written ks a)) (c .read-answer .ensures ∙ answer-is ks es s (read (c .args .root)) _ s d) (c .write-answer .ensures .digits);
       law = goes-on ks es s (read (c .args .root)) _ s d;

@@ -17,25 +17,25 @@ use Rattle.planner.proofs.planner.Planner.read.Needs as need
 pub returns-then-root-ge-ROOTS : need.returns-then-root-ge-ROOTS
 returns-then-root-ge-ROOTS g c =
     let s : State = state-of (c .args .self .now) in
-    does _ _ (g .K·RowKinds·met .lawful _) (g .E·Encoding·met .lawful _ _) s s _ _ (ap (λ (a : Said). (a, s)) (read-is s (c .args .root) false (root-at s (c .args .root)) (le-ltb (c .args .root) 32 (c .if-root-ge-ROOTS .taken)) refl))
+    record { does = does _ _ (g .K·RowKinds·met .lawful _) (g .E·Encoding·met .lawful _ _) s s _ _ (ap (λ (a : Said). (a, s)) (read-is s (c .args .root) false (root-at s (c .args .root)) (le-ltb (c .args .root) 32 (c .if-root-ge-ROOTS .taken)) refl)); kinds = refl; encodings = refl }
 
 pub returns-in-rest : need.returns-in-rest
 returns-in-rest g c =
     let s : State = state-of (c .args .self .now) in
-    does _ _ (g .K·RowKinds·met .lawful _) (g .E·Encoding·met .lawful _ _) s s _ _ (ap (λ (a : Said). (a, s)) (read-is s (c .args .root) true None (lt-ltb (c .args .root) 32 (c .if-root-ge-ROOTS .left)) (c .in-rest .ensures tt)))
+    record { does = does _ _ (g .K·RowKinds·met .lawful _) (g .E·Encoding·met .lawful _ _) s s _ _ (ap (λ (a : Said). (a, s)) (read-is s (c .args .root) true None (lt-ltb (c .args .root) 32 (c .if-root-ge-ROOTS .left)) (c .in-rest .ensures tt))); kinds = refl; encodings = refl }
 
 pub returns-then-node-ne-FLAT : need.returns-then-node-ne-FLAT
 returns-then-node-ne-FLAT g c =
     let s : State = state-of (c .args .self .now) in
     let k : ℕ = c .in-Some .n in
-    does _ _ (g .K·RowKinds·met .lawful _) (g .E·Encoding·met .lawful _ _) s s _ _ (ap (λ (a : Said). (a, s)) (handed-is (s .memory) k false (ne-eqb (node-at (s .memory) k .encoding) 1 (c .if-node-ne-FLAT .taken)) ∙ read-is s (c .args .root) true (Some k) (lt-ltb (c .args .root) 32 (c .if-root-ge-ROOTS .left)) (c .in-Some .ensures tt)))
+    record { does = does _ _ (g .K·RowKinds·met .lawful _) (g .E·Encoding·met .lawful _ _) s s _ _ (ap (λ (a : Said). (a, s)) (handed-is (s .memory) k false (ne-eqb (node-at (s .memory) k .encoding) 1 (c .if-node-ne-FLAT .taken)) ∙ read-is s (c .args .root) true (Some k) (lt-ltb (c .args .root) 32 (c .if-root-ge-ROOTS .left)) (c .in-Some .ensures tt))); kinds = refl; encodings = refl }
 
 pub returns : need.returns
 returns g c =
     let s : State = state-of (c .args .self .now) in
     let k : ℕ = c .in-Some .n in
     let nd = node-at (s .memory) k in
-    does _ _ (g .K·RowKinds·met .lawful _) (g .E·Encoding·met .lawful _ _) s s _ _ (ap (λ (a : Said). (a, s)) (
+    record { does = does _ _ (g .K·RowKinds·met .lawful _) (g .E·Encoding·met .lawful _ _) s s _ _ (ap (λ (a : Said). (a, s)) (
     ap (λ (x : ℕ). rows (nd .kind) (nd .len) x (c .read-place .result .1 .now)) (c .read-place .ensures .place)
     ∙ ap (λ (x : List ℕ). rows (nd .kind) (nd .len) (startAt (s .memory .nodes) k) x) (c .read-place .ensures .words)
-    ∙ handed-is (s .memory) k true (eq-eqb (nd .encoding) 1 (c .if-node-ne-FLAT .left)) ∙ read-is s (c .args .root) true (Some k) (lt-ltb (c .args .root) 32 (c .if-root-ge-ROOTS .left)) (c .in-Some .ensures tt)))
+    ∙ handed-is (s .memory) k true (eq-eqb (nd .encoding) 1 (c .if-node-ne-FLAT .left)) ∙ read-is s (c .args .root) true (Some k) (lt-ltb (c .args .root) 32 (c .if-root-ge-ROOTS .left)) (c .in-Some .ensures tt))); kinds = refl; encodings = refl }
