@@ -1,5 +1,5 @@
 -- Calls and answers as values.
-use mathlib.Core.List.{List}
+use mathlib.Core.List.{List, _++_}
 use Prim.Native.Nat.{ℕ}
 use denote.Ref.{now}
 use Rattle.planner.specs.declared.call.Call.{Call}
@@ -31,3 +31,8 @@ abbrev pub said : Answer → Said
 said Done = done
 said (Rows r) = rows (r .kind) (r .len) (r .place) (now (r .words))
 said (Refused e) = refused e
+
+-- A listener that was a is now b, since it has heard these answers more: whatever it may have heard before, it may have
+-- heard that and these.
+abbrev pub Hears : {L : Type 0} → (L → List Said → Type 0) → L → L → List Said → Type 0
+Hears hears a b more = (before : List Said) → hears a before → hears b (before ++ more)

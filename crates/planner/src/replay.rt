@@ -1,7 +1,7 @@
 ghost use mathlib.Core.Path.{_≡_};
-ghost use mathlib.Core.List.{List, [], _∷_, _++_, map};
+ghost use mathlib.Core.List.{[], _∷_, map};
 ghost use Rattle.planner.specs.Called.{called};
-ghost use Rattle.planner.specs.Calls.{Said, told};
+ghost use Rattle.planner.specs.Calls.{told, Hears};
 ghost use Rattle.planner.specs.Contract.{played, answers};
 ghost use Rattle.planner.specs.Law.{Law};
 ghost use Rattle.planner.specs.Seen.{state-of};
@@ -21,7 +21,7 @@ use rows::kinds::RowKinds;
 impl<K: RowKinds, E: Encoding, B: Bank, M: Matcher> Planner<'_, K, E, B, M> {
     // One call, and its answer handed to a listener.
     pub fn serve<L: Listener>(&mut self, call: Call, listener: &mut L)
-        ensures heard { λ _. ⌜ ((before : List Said) → L·Listener .hears (now (listener .entry)) before → L·Listener .hears (now (listener .exit)) (before ++ called (K·RowKinds .kinds (now (self .entry) .kinds)) (state-of (now (self .entry))) (told (call .entry)) .0 ∷ [])) ⌝ }
+        ensures heard { λ _. ⌜ Hears (L·Listener .hears) (now (listener .entry)) (now (listener .exit)) (called (K·RowKinds .kinds (now (self .entry) .kinds)) (state-of (now (self .entry))) (told (call .entry)) .0 ∷ []) ⌝ }
         ensures state { λ _. ⌜ state-of (now (self .exit)) ≡ called (K·RowKinds .kinds (now (self .entry) .kinds)) (state-of (now (self .entry))) (told (call .entry)) .1 ⌝ }
         ensures kinds { λ _. ⌜ now (self .exit) .kinds ≡ now (self .entry) .kinds ⌝ }
         ensures encodings { λ _. ⌜ now (self .exit) .encodings ≡ now (self .entry) .encodings ⌝ }
@@ -69,7 +69,7 @@ pub fn replay<
     calls: &[Call],
     listener: &mut L,
 )
-    ensures heard { λ _. ⌜ ((before : List Said) → L·Listener .hears (now (listener .entry)) before → L·Listener .hears (now (listener .exit)) (before ++ answers (played (K·RowKinds .kinds kinds) [] (map told (now (calls .entry)))))) ⌝ }
+    ensures heard { λ _. ⌜ Hears (L·Listener .hears) (now (listener .entry)) (now (listener .exit)) (answers (played (K·RowKinds .kinds kinds) [] (map told (now (calls .entry))))) ⌝ }
     ensures law { λ _. ⌜ Law (K·RowKinds .kinds kinds) (E·Encoding .means encodings (K·RowKinds .kinds kinds)) (played (K·RowKinds .kinds kinds) [] (map told (now (calls .entry)))) ⌝ }
 {
     let mut planner = Planner::new(nodes, words, kinds, encodings, bank, matcher);

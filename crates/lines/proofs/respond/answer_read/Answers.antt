@@ -17,8 +17,11 @@ returns g c =
     let s : State = state-of (c .args .planner .now) in
     let d = c .read-result .ensures .does in
     record {
+      state = refl;
       digits = subst (λ (a : Said). Wrote (c .write-answer .result) (c .args .out .now) (c .write-answer .last .out) (written ks a)) (c .read-answer .ensures ∙ answer-is ks es s (read (c .args .root)) _ s d) (c .write-answer .ensures .digits);
       law = goes-on ks es s (read (c .args .root)) _ s d;
       capacity = c .write-answer .ensures .capacity;
       room = λ h r l. c .write-answer .ensures .room (subst (λ (a : Said). Short a) (sym (c .read-answer .ensures)) (reading-short ks es s (c .args .root) _ d h r)) l;
+      kinds = refl;
+      encodings = refl;
     }

@@ -35,7 +35,11 @@ returns g c =
     let s : State = state-of (c .args .self .now) in
     let k : ℕ = c .in-Some .n in
     let nd = node-at (s .memory) k in
-    record { does = does _ _ (g .K·RowKinds·met .lawful _) (g .E·Encoding·met .lawful _ _) s s _ _ (ap (λ (a : Said). (a, s)) (
-    ap (λ (x : ℕ). rows (nd .kind) (nd .len) x (c .read-place .result .1 .now)) (c .read-place .ensures .place)
-    ∙ ap (λ (x : List ℕ). rows (nd .kind) (nd .len) (startAt (s .memory .nodes) k) x) (c .read-place .ensures .words)
-    ∙ handed-is (s .memory) k true (eq-eqb (nd .encoding) 1 (c .if-node-ne-FLAT .left)) ∙ read-is s (c .args .root) true (Some k) (lt-ltb (c .args .root) 32 (c .if-root-ge-ROOTS .left)) (c .in-Some .ensures tt))); kinds = refl; encodings = refl }
+    record {
+      does = does _ _ (g .K·RowKinds·met .lawful _) (g .E·Encoding·met .lawful _ _) s s _ _ (ap (λ (a : Said). (a, s)) (
+          ap (λ (x : ℕ). rows (nd .kind) (nd .len) x (c .read-place .result .1 .now)) (c .read-place .ensures .place)
+          ∙ ap (λ (x : List ℕ). rows (nd .kind) (nd .len) (startAt (s .memory .nodes) k) x) (c .read-place .ensures .words)
+          ∙ handed-is (s .memory) k true (eq-eqb (nd .encoding) 1 (c .if-node-ne-FLAT .left)) ∙ read-is s (c .args .root) true (Some k) (lt-ltb (c .args .root) 32 (c .if-root-ge-ROOTS .left)) (c .in-Some .ensures tt)));
+      kinds = refl;
+      encodings = refl;
+    }
