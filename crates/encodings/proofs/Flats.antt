@@ -1,13 +1,9 @@
 -- A Flat array has the rows that its words mean.
-use mathlib.Core.Path.{_≡_, refl, ap}
+use mathlib.Core.Path.{_≡_, ap}
 use mathlib.Core.Bool.{Bool, true, false}
-use mathlib.Core.List.{List}
-use Prim.Native.Nat.{ℕ, suc}
-use lib.Dec.{eqb}
+use Prim.Native.Nat.{ℕ}
 use Rattle.std.proofs.shelf.Tests.{eq-eqb}
-use Rattle.std.specs.declared.option.Option.{Option}
 use Rattle.std.specs.declared.option.Option.the-variants.{Some, None}
-use Rattle.rows.specs.declared.row.Row.{Row}
 use Rattle.rows.specs.Kind.{Kinds, rows}
 use Rattle.pool.specs.Memory.{Memory, node-at, heightAt, run-of}
 use Rattle.encodings.specs.Meaning.{Encodings}

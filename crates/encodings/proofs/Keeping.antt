@@ -1,8 +1,8 @@
 -- An array whose nodes and words are as they were has the rows that it had, and is whole if it was.
 use mathlib.Core.Path.{_≡_, refl, sym, ap, subst, _∙_}
-use mathlib.Core.Bool.{Bool, true, false}
+use mathlib.Core.Bool.{true, false}
 use mathlib.Core.List.{List, [], _∷_}
-use Prim.Native.Nat.{ℕ, zero, suc, _+_, _<_, _≤_}
+use Prim.Native.Nat.{ℕ, zero, suc, _<_, _≤_}
 use native.Mathlib.Omega.{arith}
 use lib.ListN.{take, drop}
 use lib.Dec.{eqb}
@@ -12,10 +12,10 @@ use Rattle.std.specs.declared.option.Option.the-variants.{Some, None}
 use Rattle.rows.specs.declared.row.Row.{Row}
 use Rattle.rows.specs.Kind.{Kinds, rows}
 use Rattle.pool.specs.declared.node.Node.{Node}
-use Rattle.pool.specs.Memory.{Memory, node-at, countAt, heightAt, slotsAt, runAt, with-count, run-of}
-use Rattle.pool.specs.Counts.{names, hit, times, Reaches, here, step}
+use Rattle.pool.specs.Memory.{Memory, node-at, countAt, heightAt, slotsAt, with-count, run-of}
+use Rattle.pool.specs.Counts.{names, times, Reaches, here, step}
 use Rattle.pool.specs.Order.{SameAt}
-use Rattle.encodings.specs.Meaning.{Fields, Shape, Encodings}
+use Rattle.encodings.specs.Meaning.{Shape, Encodings}
 use Rattle.encodings.specs.Rows.{fields-of, shape-of, slots-of, gathered, rows-at, rows-of, shapes-of, SlotsFit, WholeAt}
 
 -- every node that k reaches is in q as it was

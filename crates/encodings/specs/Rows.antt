@@ -1,8 +1,8 @@
 -- The rows of an array in a pool, and when an array is whole.
 use mathlib.Core.Path.{_≡_}
-use mathlib.Core.Bool.{Bool, true, false}
+use mathlib.Core.Bool.{true, false}
 use mathlib.Core.List.{List, [], _∷_}
-use Prim.Native.Nat.{ℕ, zero, suc, _<_}
+use Prim.Native.Nat.{ℕ, zero, suc}
 use lib.ListN.{take, drop}
 use lib.Dec.{eqb}
 use Rattle.std.specs.declared.option.Option.{Option}

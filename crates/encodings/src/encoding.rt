@@ -3,7 +3,6 @@
 // Changed: ported from Rust to Rattle; what an encoding means is stated by ghost members.
 
 ghost use mathlib.Core.Path.{_≡_};
-ghost use Prim.Native.Nat.{ℕ};
 ghost use Rattle.rows.specs.Kind.{Kinds};
 ghost use Rattle.encodings.specs.declared.matcher.Head.{Head};
 ghost use Rattle.encodings.specs.Meaning.{Encodings, LawfulEncodings};

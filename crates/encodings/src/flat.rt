@@ -1,4 +1,3 @@
-ghost use mathlib.Core.Path.{_≡_};
 ghost use lib.Dec.{eqb};
 ghost use Rattle.encodings.specs.Flat.{flat-encodings};
 use crate::encoding::Encoding;

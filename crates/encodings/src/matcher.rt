@@ -4,7 +4,6 @@
 
 ghost use mathlib.Core.Path.{_≡_};
 ghost use mathlib.Core.Bool.{Bool, true};
-ghost use Prim.Native.Nat.{ℕ};
 ghost use lib.Dec.{eqb};
 ghost use denote.Ref.{now};
 ghost use Rattle.encodings.specs.declared.matcher.Head.{Head};

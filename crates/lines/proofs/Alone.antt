@@ -1,12 +1,12 @@
 -- A call comes from one text alone.
 use mathlib.Core.Path.{_≡_, refl, sym, ap, subst, _∙_}
-use mathlib.Core.Bool.{Bool, true, false, _&&_}
+use mathlib.Core.Bool.{Bool, true, false}
 use mathlib.Core.List.{List, [], _∷_}
 use mathlib.Core.Logic.{_⊎_, inl, inr}
-use Prim.Native.Nat.{ℕ, zero, suc, _+_, _-_, _*_, _/_, _%_, _<_, _≤_}
+use Prim.Native.Nat.{ℕ, zero, suc, _+_, _-_, _*_, _/_, _%_, _<_}
 use native.Mathlib.Omega.{arith}
-use lib.ListN.{length, getD, take, drop}
-use lib.Dec.{leb, ltb, eqb}
+use lib.ListN.{length, getD, take}
+use lib.Dec.{leb, eqb}
 use borrow.Author.Tests.{le-leb}
 use Rattle.std.specs.declared.option.Option.{Option}
 use Rattle.std.specs.declared.option.Option.the-variants.{Some, None}
@@ -16,8 +16,8 @@ use Rattle.rows.specs.Kind.{Kinds, Bytes}
 use Rattle.planner.specs.Calls.{Told, make, share, release, read}
 use Rattle.planner.specs.Called.{in-range}
 use Rattle.lines.specs.Text.{digit, pair, decoded, spell, spelled}
-use Rattle.lines.specs.Parse.{two, rows-of, make-of, share-of, root-of, body-of, parsed, longest, asked, unchecked, From-one-text}
-use Rattle.lines.proofs.Decoding.{both, before, cons, decoded-step}
+use Rattle.lines.specs.Parse.{two, rows-of, make-of, share-of, root-of, parsed, longest, asked, unchecked, From-one-text}
+use Rattle.lines.proofs.Decoding.{both, before}
 use Rattle.lines.proofs.Calling.{make-if, body-if}
 
 -- a digit is the one that its value is spelled as

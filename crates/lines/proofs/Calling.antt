@@ -2,7 +2,7 @@
 use mathlib.Core.Path.{_≡_, refl, sym, ap, _∙_}
 use mathlib.Core.Bool.{Bool, true, false}
 use mathlib.Core.List.{List, [], _∷_}
-use Prim.Native.Nat.{ℕ, _+_, _-_, _*_, _<_, _≤_}
+use Prim.Native.Nat.{ℕ, _-_, _<_, _≤_}
 use native.Mathlib.Omega.{arith}
 use lib.ListN.{length, getD, take, drop}
 use lib.Dec.{leb, eqb}
@@ -12,7 +12,7 @@ use Rattle.std.specs.declared.option.Option.the-variants.{Some, None}
 use Rattle.std.proofs.shelf.Lists.{take-rest}
 use Rattle.std.proofs.shelf.Tests.{ne-eqb}
 use Rattle.rows.specs.Kind.{Kinds}
-use Rattle.planner.specs.Calls.{Told, make, share, release, read}
+use Rattle.planner.specs.Calls.{Told, make, release, read}
 use Rattle.lines.specs.Parse.{two, rows-of, make-of, share-of, root-of, body-of, parsed}
 
 -- a making, by whether its fields are there

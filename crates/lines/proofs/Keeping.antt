@@ -1,16 +1,15 @@
 -- A line that is cut at a limit.
-use mathlib.Core.Path.{_≡_, refl, sym, ap, _∙_}
+use mathlib.Core.Path.{_≡_, sym, ap, _∙_}
 use mathlib.Core.Bool.{Bool, true, false}
 use mathlib.Core.List.{List, [], _∷_, _++_}
 use mathlib.Core.Logic.{⊎-elim}
-use Prim.Native.Nat.{ℕ, suc, _+_, _-_, _<_, _≤_}
+use Prim.Native.Nat.{ℕ, _+_, _-_, _<_, _≤_}
 use native.Mathlib.Omega.{arith}
 use lib.ListN.{length, take, length-take}
-use lib.Dec.{leb}
 use borrow.Author.Tests.{le-leb}
 use Rattle.std.specs.declared.option.Option.{Option}
 use Rattle.std.specs.declared.option.Option.the-variants.{Some, None}
-use Rattle.std.proofs.shelf.Lists.{take-all, take-append-le, take-take, length-push}
+use Rattle.std.proofs.shelf.Lists.{take-all, take-append-le, length-push}
 use Rattle.std.proofs.shelf.Tests.{lt-leb, cases-lt}
 use Rattle.rows.specs.Kind.{Kinds}
 use Rattle.planner.specs.Calls.{Told}

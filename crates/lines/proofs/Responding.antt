@@ -1,16 +1,13 @@
 -- What a call's promise gives for the line that stands for it.
-use mathlib.Core.Path.{_≡_, refl, sym, ap, subst, _∙_}
-use mathlib.Core.List.{List}
+use mathlib.Core.Path.{_≡_, ap, subst}
 use Prim.Native.Nat.{ℕ}
-use Rattle.std.specs.declared.option.Option.{Option}
-use Rattle.std.specs.declared.option.Option.the-variants.{Some, None}
 use Rattle.std.specs.declared.result.Result.{Result}
 use Rattle.std.specs.declared.result.Result.the-variants.{Ok, Err}
 use Rattle.rows.specs.Kind.{Kinds}
 use Rattle.encodings.specs.Meaning.{Encodings}
 use Rattle.planner.specs.declared.call.Refusal.{Refusal}
 use Rattle.planner.specs.Calls.{Told, read, Said, done, rows, refused}
-use Rattle.planner.specs.Called.{State, read-out, called}
+use Rattle.planner.specs.Called.{State, called}
 use Rattle.planner.specs.Contract.{outcome, Does}
 use Rattle.planner.specs.Law.{History, Reached, Extends, Reads}
 use Rattle.lines.specs.Written.{Short}

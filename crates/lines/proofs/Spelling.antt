@@ -3,7 +3,7 @@ use mathlib.Core.Path.{_≡_, refl, sym, ap, _∙_}
 use mathlib.Core.Bool.{true}
 use mathlib.Core.List.{List, [], _∷_, _++_, map}
 use Prim.Native.Nat.{ℕ, _+_, _*_, _/_, _%_, _<_, _≤_}
-use native.Mathlib.Nat.{mul-le-mul-left, mul-le-mul-right, mul-add, mul-comm}
+use native.Mathlib.Nat.{mul-le-mul-left, mul-add}
 use native.Mathlib.Omega.{arith}
 use lib.ListN.{length, getD, take, length-append}
 use Rattle.std.specs.declared.vec.Vec.{Vec}
@@ -13,7 +13,7 @@ use Rattle.std.specs.Of.Vec.{vec-items, vec-len, vec-cap}
 use Rattle.std.specs.Results.{isOk}
 use Rattle.std.specs.Joined.{joined}
 use Rattle.std.specs.Iters.{counting}
-use Rattle.std.proofs.shelf.Lists.{append-assoc, take-more, joined-more, length-take-le}
+use Rattle.std.proofs.shelf.Lists.{append-assoc, take-more, joined-more}
 use Rattle.std.proofs.shelf.Counted.{map-counting-more, length-map-counting}
 use Rattle.rows.specs.declared.row.Row.{Row}
 use Rattle.rows.specs.Kind.{Kind, Kinds, LawfulKind, rows}
@@ -23,7 +23,7 @@ use Rattle.planner.specs.Calls.{Said, done, refused}
 use Rattle.lines.specs.Text.{spell, spelled}
 use Rattle.lines.specs.Append.{Appended, Wrote}
 use Rattle.lines.specs.Parse.{longest}
-use Rattle.lines.specs.Written.{written, bytes-of, Short}
+use Rattle.lines.specs.Written.{written, Short}
 
 pub length-spelled : (bs : List ℕ) → length (spelled bs) ≡ 2 * length bs
 length-spelled [] = refl

@@ -8,7 +8,7 @@ use lib.ListN.{length, getD, take, drop}
 use lib.Dec.{eqb, leb}
 use Rattle.std.specs.declared.option.Option.{Option}
 use Rattle.std.specs.declared.option.Option.the-variants.{Some, None}
-use Rattle.rows.specs.Kind.{Kinds, Bytes}
+use Rattle.rows.specs.Kind.{Kinds}
 use Rattle.planner.specs.Calls.{Told, make, share, release, read}
 use Rattle.planner.specs.Called.{in-range}
 use Rattle.lines.specs.Text.{decoded}

@@ -1,7 +1,6 @@
 -- What a line is answered, and what it leaves.
 use mathlib.Core.Path.{_≡_}
 use mathlib.Core.Bool.{true}
-use mathlib.Core.List.{List}
 use Prim.Native.Nat.{ℕ, _≤_}
 use Rattle.std.specs.Of.Vec.{vec-cap}
 use Rattle.std.specs.Results.{isOk}

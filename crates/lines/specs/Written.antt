@@ -1,9 +1,7 @@
 -- What an answer is written as.
-use mathlib.Core.Path.{_≡_}
-use mathlib.Core.List.{List, [], _∷_, _++_}
+use mathlib.Core.List.{List, [], _∷_}
 use Prim.Native.Nat.{ℕ, _/_, _%_, _≤_}
 use Rattle.std.specs.Joined.{joined}
-use Rattle.rows.specs.declared.row.Row.{Row}
 use Rattle.rows.specs.Kind as kinds
 use Rattle.rows.specs.Kind.{Kinds}
 use Rattle.pool.specs.declared.node.PoolFault.{PoolFault}

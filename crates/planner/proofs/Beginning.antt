@@ -1,18 +1,17 @@
 -- A new planner is in order.
-use mathlib.Core.Path.{_≡_, refl, sym, ap, subst, _∙_}
-use mathlib.Core.List.{List, [], _∷_}
+use mathlib.Core.Path.{_≡_, refl, sym, ap, _∙_}
 use mathlib.Core.Logic.{_⊎_, inl, inr, ⊎-elim}
-use Prim.Native.Nat.{ℕ, zero, suc, _+_, _<_, _≤_}
+use Prim.Native.Nat.{ℕ, zero, suc}
 use native.Mathlib.Omega.{arith}
 use lib.ListN.{length, getD, replicate}
 use Rattle.std.proofs.shelf.Lists.{getD-replicate, getD-past, length-replicate}
 use Rattle.std.proofs.shelf.Tests.{cases-lt}
 use Rattle.std.specs.declared.option.Option.{Option}
-use Rattle.std.specs.declared.option.Option.the-variants.{Some, None}
+use Rattle.std.specs.declared.option.Option.the-variants.{None}
 use Rattle.rows.specs.Kind.{Kinds}
 use Rattle.pool.specs.declared.node.Node.{Node}
-use Rattle.pool.specs.Memory.{blank, free-node, empty-memory, countAt, heightAt, slotsAt, startAt, runAt}
-use Rattle.pool.specs.Counts.{names, times, named}
+use Rattle.pool.specs.Memory.{blank, free-node, empty-memory, countAt, startAt, runAt}
+use Rattle.pool.specs.Counts.{names, named}
 use Rattle.pool.specs.Order.{Ordered}
 use Rattle.encodings.specs.Meaning.{Encodings}
 use Rattle.planner.specs.Called.{new-state}

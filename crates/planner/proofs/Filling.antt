@@ -2,22 +2,22 @@
 use mathlib.Core.Path.{_≡_, refl, sym, ap, subst, _∙_}
 use mathlib.Core.Bool.{true}
 use mathlib.Core.List.{List, [], _∷_, _++_}
-use Prim.Native.Nat.{ℕ, zero, suc, _+_, _<_, _≤_}
+use Prim.Native.Nat.{ℕ, suc, _+_, _<_, _≤_}
 use native.Mathlib.Omega.{arith}
 use native.Mathlib.Nat.{add-zero}
-use lib.ListN.{length, getD, set, take, drop}
-use Rattle.std.proofs.shelf.Lists.{getD-set-same, length-set, take-more, length-take-le, length-drop, take-all}
+use lib.ListN.{length, getD, take, drop}
+use Rattle.std.proofs.shelf.Lists.{getD-set-same, length-set, take-more, length-take-le, length-drop}
 use Rattle.std.specs.declared.option.Option.{Option}
 use Rattle.std.specs.declared.option.Option.the-variants.{Some, None}
 use Rattle.std.specs.declared.result.Result.{Result}
 use Rattle.std.specs.declared.result.Result.the-variants.{Ok, Err}
 use Rattle.rows.specs.declared.row.Row.{Row}
-use Rattle.rows.specs.Kind.{Kind, Kinds, LawfulKind, appended}
+use Rattle.rows.specs.Kind.{Kinds, LawfulKind, appended}
 use Rattle.rows.proofs.Appending.{appended-long}
 use Rattle.pool.specs.declared.node.Node.{Node}
 use Rattle.pool.specs.declared.node.PoolFault.{PoolFault}
-use Rattle.pool.specs.declared.node.PoolFault.the-variants.{Height, Nodes, Words}
-use Rattle.pool.specs.Memory.{Memory, blank, node-at, startAt, runAt, put-node, overwritten, run-of, with-run}
+use Rattle.pool.specs.declared.node.PoolFault.the-variants.{Nodes, Words}
+use Rattle.pool.specs.Memory.{Memory, blank, node-at, startAt, runAt, put-node, run-of}
 use Rattle.pool.specs.Finding.{lowest-free, find-run, Room, LowestNode}
 use Rattle.pool.specs.Building.{open-node, opened, append-row, append-rows, finished, built, Open}
 use Rattle.pool.proofs.Found.{lowest-free-is, found-room}

@@ -2,30 +2,28 @@
 use mathlib.Core.Path.{_≡_, refl, sym, ap, subst, _∙_}
 use mathlib.Core.Bool.{Bool, true, false}
 use mathlib.Core.List.{List, [], _∷_}
-use mathlib.Core.Logic.{_⊎_, inl, inr, ⊎-elim, _≢_}
-use Prim.Native.Nat.{ℕ, zero, suc, _+_, _<_, _≤_}
+use mathlib.Core.Logic.{_⊎_, ⊎-elim}
+use Prim.Native.Nat.{ℕ, _<_}
 use native.Mathlib.Omega.{arith}
-use lib.ListN.{length, getD, set, replicate}
-use lib.Dec.{eqb}
+use lib.ListN.{length, getD, set}
 use Rattle.std.proofs.shelf.Lists.{getD-set-same, getD-set-other, length-set, length-replicate}
-use Rattle.std.proofs.shelf.Tests.{cases-eq, eqb-false, eq-eqb, true≢false}
+use Rattle.std.proofs.shelf.Tests.{cases-eq, eqb-false}
 use Rattle.std.specs.declared.option.Option.{Option}
 use Rattle.std.specs.declared.option.Option.the-variants.{Some, None}
 use Rattle.rows.specs.declared.row.Row.{Row}
-use Rattle.rows.specs.Kind.{Kind, Kinds}
+use Rattle.rows.specs.Kind.{Kinds}
 use Rattle.rows.specs.Ours.{LawfulKinds}
 use Rattle.pool.specs.Memory.{Memory}
 use Rattle.pool.specs.Counts.{names}
 use Rattle.encodings.specs.Meaning.{Encodings, LawfulEncodings}
 use Rattle.encodings.specs.Rows.{rows-of}
 use Rattle.encodings.proofs.Keeping.{rows-kept}
-use Rattle.planner.specs.declared.call.Refusal.{Refusal}
 use Rattle.planner.specs.Calls.{Told, make, share, release, read, Said, done, rows, refused}
 use Rattle.planner.specs.Called.{State, new-state, root-at, parsed-rows, called}
-use Rattle.planner.specs.Law.{Moment, History, state-after, Always, Answered, Reached, accepted, Entry, entered, ledger, rows-under, Entered, renews, renewed, Carries, Found, own-root, Makes, Shares, Reads, Unchanged, Spares, Others, Whole, Law, Extends}
+use Rattle.planner.specs.Law.{Moment, History, state-after, Answered, Reached, accepted, Entry, entered, ledger, rows-under, Entered, renews, renewed, Found, own-root, Spares, Others, Whole, Law, Extends}
 use Rattle.pool.proofs.Counted.{heights-falling}
 use Rattle.pool.proofs.Reached.{counts-exact}
-use Rattle.planner.proofs.Steps.{Good, Effect, Step, call-step}
+use Rattle.planner.proofs.Steps.{Good, Step, call-step}
 use Rattle.planner.proofs.Beginning.{none-at, new-good}
 
 module _ (ks : Kinds) (es : Encodings) where

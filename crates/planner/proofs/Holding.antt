@@ -1,16 +1,12 @@
 -- What holders reach before and after a change.
-use mathlib.Core.Path.{_≡_, refl, sym, ap, subst, _∙_}
-use mathlib.Core.List.{List, [], _∷_}
-use Prim.Native.Nat.{ℕ, _+_, _<_}
-use native.Mathlib.Omega.{arith}
-use lib.ListN.{getD}
-use Rattle.std.specs.declared.option.Option.{Option}
-use Rattle.std.specs.declared.option.Option.the-variants.{Some, None}
+use mathlib.Core.Path.{subst}
+use mathlib.Core.List.{List}
+use Prim.Native.Nat.{ℕ, _<_}
 use Rattle.rows.specs.Kind.{Kinds}
 use Rattle.pool.specs.declared.node.Node.{Node}
-use Rattle.pool.specs.Memory.{Memory, node-at, countAt, slotsAt}
+use Rattle.pool.specs.Memory.{Memory}
 use Rattle.pool.specs.Counts.{names, times, Reaches, here, step, Held}
-use Rattle.pool.specs.Order.{SameAt, Keeps}
+use Rattle.pool.specs.Order.{Keeps}
 use Rattle.encodings.specs.Meaning.{Encodings}
 use Rattle.encodings.specs.Rows.{WholeAt}
 use Rattle.encodings.proofs.Keeping.{Kept, reaches-on, whole-kept}

@@ -1,16 +1,15 @@
 -- A planner's ghost fields say that its pool is in order.
-use mathlib.Core.Path.{_≡_, refl, sym, ap, subst, _∙_}
-use mathlib.Core.Bool.{Bool, true, false, _&&_}
+use mathlib.Core.Path.{_≡_, refl, ap, _∙_}
+use mathlib.Core.Bool.{true}
 use mathlib.Core.List.{List, [], _∷_}
-use Prim.Native.Nat.{ℕ, zero, suc, _+_, _<_, _≤_}
+use Prim.Native.Nat.{ℕ}
 use native.Mathlib.Omega.{arith}
-use lib.ListN.{length, getD, replicate}
-use lib.Dec.{eqb}
+use lib.ListN.{length, replicate}
 use Rattle.std.proofs.shelf.Tests.{and-parts, eqb-true}
 use Rattle.std.specs.declared.option.Option.{Option}
 use Rattle.std.specs.declared.option.Option.the-variants.{Some, None}
 use Rattle.pool.specs.declared.node.Node.{Node}
-use Rattle.pool.specs.Memory.{Memory, no-slots, free-node, slotsAt}
+use Rattle.pool.specs.Memory.{Memory, no-slots, free-node}
 use Rattle.pool.specs.Counts.{names, Counts, Heights}
 use Rattle.pool.specs.Order.{Low, Eight, Within, Apart, Slotless, Freed, Cleared, Ordered}
 use Rattle.planner.specs.declared.planner.Planner.{Planner}

@@ -1,19 +1,19 @@
 -- The checks of a making, and what its building leaves in order.
 use mathlib.Core.Path.{_≡_, refl, sym, ap, subst, _∙_}
 use mathlib.Core.Bool.{Bool, true, false}
-use mathlib.Core.List.{List, [], _∷_}
+use mathlib.Core.List.{List}
 use Prim.Native.Nat.{ℕ, _*_, _<_, _≤_}
 use native.Mathlib.Omega.{arith}
 use lib.ListN.{length, getD, set}
 use lib.Dec.{eqb, leb}
 use Rattle.std.proofs.shelf.Tests.{eqb-true, eq-eqb, ne-eqb, and-parts, leb-true}
-use Rattle.std.specs.Options.{isSome, valueOr}
+use Rattle.std.specs.Options.{isSome}
 use Rattle.std.specs.declared.option.Option.{Option}
 use Rattle.std.specs.declared.option.Option.the-variants.{Some, None}
 use Rattle.std.specs.declared.result.Result.{Result}
 use Rattle.std.specs.declared.result.Result.the-variants.{Ok, Err}
 use Rattle.rows.specs.declared.row.Row.{Row}
-use Rattle.rows.specs.Kind.{Kind, Kinds, LawfulKind}
+use Rattle.rows.specs.Kind.{Kinds, LawfulKind}
 use Rattle.pool.specs.declared.node.PoolFault.{PoolFault}
 use Rattle.pool.specs.Memory.{Memory}
 use Rattle.pool.specs.Counts.{names}
@@ -22,7 +22,7 @@ use Rattle.pool.specs.Building.{built}
 use Rattle.pool.proofs.Building.{Outcome, built-is}
 use Rattle.planner.specs.Called.{in-range, sized, parsed-rows, rows-made}
 use Rattle.planner.specs.Contract.{rows-parsed}
-use Rattle.planner.proofs.Parsing.{parsed-value, parsed-long}
+use Rattle.planner.proofs.Parsing.{parsed-value}
 use Rattle.planner.proofs.Parsing as parsing
 use Rattle.planner.proofs.Rooted.{filled-ordered}
 

@@ -1,14 +1,14 @@
 -- What a change of one root leaves in order.
-use mathlib.Core.Path.{_≡_, sym}
+use mathlib.Core.Path.{_≡_}
 use mathlib.Core.List.{List, [], _∷_}
-use Prim.Native.Nat.{ℕ, _+_, _<_, _≤_}
+use Prim.Native.Nat.{ℕ, _<_, _≤_}
 use native.Mathlib.Omega.{arith}
 use lib.ListN.{length, getD, set}
 use Rattle.std.specs.declared.option.Option.{Option}
 use Rattle.std.specs.declared.option.Option.the-variants.{Some, None}
 use Rattle.pool.specs.Memory.{Memory, countAt}
-use Rattle.pool.specs.Counts.{names, times, Counts, Falling, Owed, here}
-use Rattle.pool.specs.Order.{Ordered, Change}
+use Rattle.pool.specs.Counts.{names, Falling, Owed, here}
+use Rattle.pool.specs.Order.{Ordered}
 use Rattle.pool.specs.Sharing.{retained, release}
 use Rattle.pool.proofs.Counted.{heights-falling, held-used, count-bound}
 use Rattle.pool.proofs.Spared.{retained-change}

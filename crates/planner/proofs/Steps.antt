@@ -2,45 +2,45 @@
 use mathlib.Core.Path.{_≡_, refl, sym, ap, subst, _∙_}
 use mathlib.Core.Bool.{Bool, true, false, _&&_}
 use mathlib.Core.List.{List, [], _∷_}
-use mathlib.Core.Logic.{_⊎_, inl, inr, ⊎-elim, _≢_}
-use Prim.Native.Nat.{ℕ, zero, suc, _+_, _<_, _≤_}
+use mathlib.Core.Logic.{_⊎_, ⊎-elim}
+use Prim.Native.Nat.{ℕ, _<_, _≤_}
 use native.Mathlib.Omega.{arith}
-use lib.ListN.{length, getD, set, take, drop, length-take, length-drop}
+use lib.ListN.{length, set, take, drop, length-take, length-drop}
 use lib.Dec.{eqb, ltb, leb}
 use Rattle.std.proofs.shelf.Lists.{getD-set-same, getD-set-other, length-set}
-use Rattle.std.proofs.shelf.Tests.{ltb-true, leb-true, eqb-true, eq-eqb, le-leb, and-parts, and-from, cases-eq, cases-lt}
+use Rattle.std.proofs.shelf.Tests.{ltb-true, leb-true, eqb-true, eq-eqb, le-leb, and-parts, and-from, cases-eq}
 use Rattle.std.specs.declared.option.Option.{Option}
 use Rattle.std.specs.declared.option.Option.the-variants.{Some, None}
 use Rattle.std.specs.declared.result.Result.{Result}
 use Rattle.std.specs.declared.result.Result.the-variants.{Ok, Err}
 use Rattle.rows.specs.declared.row.Row.{Row}
 use Rattle.rows.specs.Kind as kinds
-use Rattle.rows.specs.Kind.{Kind, Kinds, LawfulKind}
+use Rattle.rows.specs.Kind.{Kinds}
 use Rattle.rows.specs.Ours.{LawfulKinds}
 use Rattle.pool.specs.declared.node.Node.{Node}
 use Rattle.pool.specs.declared.node.PoolFault.{PoolFault}
 use Rattle.pool.specs.Memory.{Memory, no-slots, node-at, countAt, slotsAt, startAt, runAt, run-of}
-use Rattle.pool.specs.Counts.{names, hit, times, Reaches, here, step, Held}
-use Rattle.pool.specs.Order.{Ordered, Change, Keeps, SameAt}
+use Rattle.pool.specs.Counts.{names, times, Reaches, here, step, Held}
+use Rattle.pool.specs.Order.{Ordered, Keeps}
 use Rattle.pool.specs.Sharing as sharing
 use Rattle.pool.specs.Building.{built}
-use Rattle.encodings.specs.Meaning.{Fields, Encodings, LawfulEncodings, flat-fields, no-shapes}
+use Rattle.encodings.specs.Meaning.{Encodings, LawfulEncodings, flat-fields}
 use Rattle.encodings.specs.Rows.{fields-of, slots-of, shapes-of, SlotsFit, rows-of, WholeAt}
-use Rattle.encodings.proofs.Keeping.{Kept, rows-kept}
+use Rattle.encodings.proofs.Keeping.{rows-kept}
 use Rattle.encodings.proofs.Flats.{flat-rows}
 use Rattle.planner.specs.declared.call.Refusal.{Refusal}
 use Rattle.planner.specs.declared.call.Refusal.the-variants.{Line, RootRange, RootEmpty, RootTaken, Field, Pool, NotFlat}
 use Rattle.planner.specs.Calls.{Told, make, share, release, read, Said, done, rows, refused}
 use Rattle.planner.specs.Called.{State, root-at, with-root, parsed-rows, in-range, sized, rows-made, placed, made, shared, emptied, handed, read-out, called}
-use Rattle.planner.specs.Law.{rows-under, own-root, Makes, Shares, Hands, Reads, Unchanged, Spares, Others}
+use Rattle.planner.specs.Law.{Makes, Shares, Reads, Unchanged, Spares, Others}
 use Rattle.pool.proofs.Counted.{heights-falling, held-used}
 use Rattle.pool.proofs.Reached.{counts-exact}
 use Rattle.pool.proofs.Spared.{retained-change}
 use Rattle.pool.proofs.Releasing.{release-change}
 use Rattle.pool.proofs.Building.{Built, Outcome, built-is}
 use Rattle.planner.proofs.Ways.{bool-both, option-both}
-use Rattle.planner.proofs.Holders.{times-here, names-at, names-filled, names-emptied, ordered-like, held-other}
-use Rattle.planner.proofs.Holding.{held-kept, kept-whole, held-back}
+use Rattle.planner.proofs.Holders.{names-at, names-filled, names-emptied, ordered-like, held-other}
+use Rattle.planner.proofs.Holding.{held-kept, kept-whole}
 use Rattle.planner.proofs.Parsing.{rows-parsed}
 
 -- A state in order: the pool under its roots, and every array whole.

@@ -1,5 +1,4 @@
 -- What each call answers, and the state that it leaves: checks in the order of the refusals' numbers, then the work.
-use mathlib.Core.Path.{_≡_}
 use mathlib.Core.Bool.{Bool, true, false, _&&_}
 use mathlib.Core.List.{List, [], _∷_}
 use Prim.Native.Nat.{ℕ, zero, suc, _*_}
@@ -15,7 +14,6 @@ use Rattle.pool.specs.declared.node.PoolFault.{PoolFault}
 use Rattle.pool.specs.Memory.{Memory, empty-memory, node-at, startAt, run-of}
 use Rattle.pool.specs.Sharing as sharing
 use Rattle.pool.specs.Building.{built}
-use Rattle.planner.specs.declared.call.Refusal.{Refusal}
 use Rattle.planner.specs.declared.call.Refusal.the-variants.{Line, RootRange, RootEmpty, RootTaken, Field, Pool, NotFlat}
 use Rattle.planner.specs.Calls.{Told, make, share, release, read, Said, done, rows, refused}
 

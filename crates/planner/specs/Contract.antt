@@ -1,6 +1,6 @@
 -- What every public call of a planner promises.
 use mathlib.Core.Path.{_≡_}
-use mathlib.Core.List.{List, [], _∷_, _++_, map}
+use mathlib.Core.List.{List, [], _∷_, _++_}
 use Prim.Native.Nat.{ℕ, _+_}
 use denote.Ref.{now}
 use Rattle.std.specs.declared.option.Option.{Option}
@@ -14,8 +14,8 @@ use Rattle.encodings.specs.Meaning.{Encodings}
 use Rattle.planner.specs.declared.call.Refusal.{Refusal}
 use Rattle.planner.specs.declared.call.Reading.{Reading}
 use Rattle.planner.specs.Calls.{Told, Said, done, rows, refused}
-use Rattle.planner.specs.Called.{State, new-state, parsed-rows, called}
-use Rattle.planner.specs.Law.{Moment, History, state-after, Reached, Law, Extends}
+use Rattle.planner.specs.Called.{State, parsed-rows, called}
+use Rattle.planner.specs.Law.{History, state-after, Reached, Extends}
 
 -- an outcome as an answer
 abbrev pub outcome : Result (Unit {0}) Refusal → Said

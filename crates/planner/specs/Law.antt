@@ -10,12 +10,11 @@ use Rattle.std.specs.declared.option.Option.the-variants.{Some, None}
 use Rattle.rows.specs.declared.row.Row.{Row}
 use Rattle.rows.specs.Kind as kinds
 use Rattle.rows.specs.Kind.{Kinds}
-use Rattle.pool.specs.Memory.{Memory, node-at, countAt, startAt, run-of}
+use Rattle.pool.specs.Memory.{node-at, countAt, startAt, run-of}
 use Rattle.pool.specs.Counts.{names, Counts, Heights, Reaches, Exact}
 use Rattle.pool.specs.Order.{Low, Within, Apart, SameAt}
 use Rattle.encodings.specs.Meaning.{Encodings}
 use Rattle.encodings.specs.Rows.{rows-of, WholeAt}
-use Rattle.planner.specs.declared.call.Refusal.{Refusal}
 use Rattle.planner.specs.Calls.{Told, make, share, release, read, Said, done, rows, refused}
 use Rattle.planner.specs.Called.{State, new-state, root-at, parsed-rows, called}
 

@@ -1,5 +1,5 @@
 ghost use mathlib.Core.Path.{_≡_};
-ghost use Prim.Native.Nat.{ℕ, _<_};
+ghost use Prim.Native.Nat.{_<_};
 ghost use Rattle.pool.specs.Seen.{nodes-used, words-used};
 ghost use Rattle.planner.specs.Calls.{read};
 ghost use Rattle.planner.specs.Contract.{read-outcome, roots-used};

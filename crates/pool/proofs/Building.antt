@@ -1,10 +1,10 @@
 -- A Flat array that is built: opened, appended to, and finished.
-use mathlib.Core.Path.{_≡_, refl, sym, ap, ap₂, subst, _∙_}
-use mathlib.Core.List.{List, [], _∷_, _++_}
-use mathlib.Core.Bool.{Bool, true, false}
-use Prim.Native.Nat.{ℕ, zero, suc, _+_, _-_, _<_, _≤_}
+use mathlib.Core.Path.{_≡_, refl, sym, ap, subst, _∙_}
+use mathlib.Core.List.{List, [], _∷_}
+use mathlib.Core.Bool.{true}
+use Prim.Native.Nat.{ℕ, suc, _+_, _-_, _<_, _≤_}
 use native.Mathlib.Omega.{arith}
-use lib.ListN.{length, getD, set, take, drop, replicate}
+use lib.ListN.{length, getD, set, drop, replicate}
 use Rattle.std.proofs.shelf.Lists.{length-set, length-take-le, length-drop, length-replicate, getD-set-same, getD-take, getD-drop, getD-replicate, set-set, ext-getD}
 use Rattle.std.specs.declared.option.Option.{Option}
 use Rattle.std.specs.declared.option.Option.the-variants.{Some, None}
@@ -19,7 +19,7 @@ use Rattle.pool.specs.declared.node.PoolFault.the-variants.{Height, Nodes, Wor
 use Rattle.pool.specs.Memory.{Memory, blank, no-slots, node-at, countAt, startAt, runAt, with-encoding, put-node, with-words, part, overwritten, run-of, with-run}
 use Rattle.pool.specs.Order.{Ordered, Change}
 use Rattle.pool.specs.Finding.{lowest-free, find-run, Room, Lowest, LowestNode}
-use Rattle.pool.specs.Building.{open-node, opened, append-row, append-rows, finished, built}
+use Rattle.pool.specs.Building.{open-node, opened, append-rows, finished, built}
 use Rattle.pool.proofs.Found.{lowest-free-is, find-run-is, found-room}
 use Rattle.pool.proofs.Placing.{placed, placed-change, over-long, over-part, over-over, over-same}
 

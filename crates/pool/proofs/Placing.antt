@@ -1,20 +1,19 @@
 -- A free node and free words take a node with a run.
-use mathlib.Core.Path.{_≡_, refl, sym, ap, ap₂, subst, _∙_}
+use mathlib.Core.Path.{_≡_, refl, sym, ap, ap₂, _∙_}
 use mathlib.Core.List.{List, [], _∷_, _++_}
-use mathlib.Core.Bool.{Bool, true, false, cond}
 use mathlib.Core.Logic.{_⊎_, inl, inr, ⊎-elim}
 use Prim.Native.Nat.{ℕ, zero, suc, max, min, _+_, _-_, _<_, _≤_}
 use native.Mathlib.Omega.{arith}
-use lib.ListN.{length, getD, set, take, drop, replicate}
+use lib.ListN.{length, getD, set, take, drop}
 use lib.Dec.{eqb, ltb}
-use Rattle.std.proofs.shelf.Lists.{append-nil, length-set, length-take, length-take-le, length-drop, length-append, take-append-drop, take-at, drop-at, drop-drop, getD-set-same, getD-set-other, getD-append-left, getD-append-right, getD-take, getD-drop, ext-getD}
+use Rattle.std.proofs.shelf.Lists.{length-set, length-take, length-take-le, length-drop, length-append, take-append-drop, take-at, drop-at, getD-set-same, getD-set-other, getD-append-left, getD-append-right, getD-take, getD-drop, ext-getD}
 use Rattle.std.proofs.shelf.Tests.{cases-lt, cases-eq, eq-eqb, ne-eqb, lt-ltb, le-ltb, cond-true, cond-false}
 use Rattle.std.specs.declared.option.Option.{Option}
 use Rattle.std.specs.declared.option.Option.the-variants.{Some, None}
 use Rattle.pool.specs.declared.node.Node.{Node}
-use Rattle.pool.specs.Memory.{Memory, blank, no-slots, free-node, node-at, countAt, heightAt, slotsAt, startAt, runAt, with-count, part, overwritten, run-of}
-use Rattle.pool.specs.Counts.{names, hit, times, namesOf, named, Counts, Heights, tallest, Reaches, here, step, Held}
-use Rattle.pool.specs.Order.{Low, Eight, Within, Apart, Slotless, Freed, Cleared, Ordered, SameAt, Keeps, Change}
+use Rattle.pool.specs.Memory.{Memory, blank, no-slots, countAt, slotsAt, startAt, runAt, with-count, part, overwritten}
+use Rattle.pool.specs.Counts.{names, times, namesOf, named, Counts, Heights, tallest, Reaches, here, step}
+use Rattle.pool.specs.Order.{Low, Eight, Within, Apart, Slotless, Freed, Cleared, Ordered, Keeps, Change}
 use Rattle.pool.specs.Finding.{Room}
 
 -- ---- words with others in the place of some

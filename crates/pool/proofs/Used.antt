@@ -1,11 +1,10 @@
 -- How much of a pool is in use, node by node.
-use mathlib.Core.Path.{_≡_, refl, sym, ap, ap₂, _∙_}
-use mathlib.Core.List.{List, [], _∷_}
+use mathlib.Core.Path.{_≡_, sym, ap, ap₂, _∙_}
+use mathlib.Core.List.{List}
 use mathlib.Core.Bool.{Bool, true, false}
 use Prim.Native.Nat.{ℕ, _+_, _<_, _≤_}
 use native.Mathlib.Omega.{arith}
 use lib.ListN.{length, getD, drop, replicate}
-use lib.Dec.{eqb}
 use Rattle.std.proofs.shelf.Lists.{at-drop-more, at-drop-all, ext-getD, length-replicate, getD-replicate}
 use Rattle.std.proofs.shelf.Tests.{eq-eqb, ne-eqb}
 use Rattle.pool.specs.declared.node.Node.{Node}

@@ -4,7 +4,6 @@ use mathlib.Core.Bool.{true}
 use mathlib.Core.List.{List, [], _∷_}
 use Prim.Native.Nat.{ℕ, suc, _+_, _<_, _≤_}
 use lib.ListN.{length}
-use Rattle.std.specs.declared.option.Option.{Option}
 use Rattle.std.specs.declared.option.Option.the-variants.{Some, None}
 use Rattle.std.specs.declared.result.Result.{Result}
 use Rattle.std.specs.declared.result.Result.the-variants.{Ok, Err}
@@ -12,7 +11,7 @@ use Rattle.rows.specs.declared.row.Row.{Row}
 use Rattle.rows.specs.Kind.{Kinds}
 use Rattle.pool.specs.declared.node.Node.{Node}
 use Rattle.pool.specs.declared.node.PoolFault.{PoolFault}
-use Rattle.pool.specs.declared.node.PoolFault.the-variants.{Height, Nodes, Words}
+use Rattle.pool.specs.declared.node.PoolFault.the-variants.{Nodes, Words}
 use Rattle.pool.specs.Memory.{Memory, no-slots, node-at, startAt, runAt, with-encoding, put-node, run-of, with-run}
 use Rattle.pool.specs.Finding.{lowest-free, find-run}
 

@@ -1,9 +1,9 @@
 -- Share counts: each is the number of holders and of slots of nodes in use that name the node.
 use mathlib.Core.Path.{_≡_}
 use mathlib.Core.List.{List, [], _∷_, _++_}
-use mathlib.Core.Bool.{Bool, true, false, cond}
-use Prim.Native.Nat.{ℕ, suc, max, _+_, _<_, _≤_}
-use lib.ListN.{length, getD}
+use mathlib.Core.Bool.{cond}
+use Prim.Native.Nat.{ℕ, suc, max, _+_, _<_}
+use lib.ListN.{getD}
 use lib.Dec.{eqb, ltb}
 use Rattle.std.specs.declared.option.Option.{Option}
 use Rattle.std.specs.declared.option.Option.the-variants.{Some, None}

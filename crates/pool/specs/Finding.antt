@@ -3,12 +3,12 @@ use mathlib.Core.Path.{_≡_}
 use mathlib.Core.List.{List, [], _∷_}
 use mathlib.Core.Bool.{Bool, true, false}
 use Prim.Native.Nat.{ℕ, zero, suc, max, min, _+_, _-_, _<_, _≤_}
-use lib.ListN.{length, getD}
+use lib.ListN.{length}
 use lib.Dec.{eqb, ltb}
 use Rattle.std.specs.declared.option.Option.{Option}
 use Rattle.std.specs.declared.option.Option.the-variants.{Some, None}
 use Rattle.pool.specs.declared.node.Node.{Node}
-use Rattle.pool.specs.Memory.{Memory, blank, countAt, startAt, runAt}
+use Rattle.pool.specs.Memory.{Memory, countAt, startAt, runAt}
 
 -- the first node that is not in use; the list's first is number i
 abbrev pub lowest-free : List Node → ℕ → Option ℕ

@@ -1,9 +1,9 @@
 -- The memory of a pool: nodes and words. A node that is not in use is the free node, and a word that is not in use is 0.
-use mathlib.Core.List.{List, [], _∷_, _++_}
+use mathlib.Core.List.{List, [], _++_}
 use Prim.Native.Nat.{ℕ}
-use lib.ListN.{length, getD, set, take, drop, replicate}
+use lib.ListN.{getD, set, take, drop, replicate}
 use Rattle.std.specs.declared.option.Option.{Option}
-use Rattle.std.specs.declared.option.Option.the-variants.{Some, None}
+use Rattle.std.specs.declared.option.Option.the-variants.{None}
 use Rattle.pool.specs.declared.node.Node.{Node}
 
 pub record Memory : Type 0 where

@@ -1,6 +1,6 @@
 -- A pool in order, whoever holds; and what a change of it keeps.
 use mathlib.Core.Path.{_≡_}
-use mathlib.Core.List.{List, [], _∷_}
+use mathlib.Core.List.{List}
 use Prim.Native.Nat.{ℕ, _+_, _<_, _≤_}
 use lib.ListN.{length, getD}
 use Rattle.pool.specs.declared.node.Node.{Node}

@@ -1,6 +1,6 @@
 -- One holder more, and one holder less.
 use mathlib.Core.List.{List, [], _∷_}
-use mathlib.Core.Bool.{Bool, true, false}
+use mathlib.Core.Bool.{true, false}
 use Prim.Native.Nat.{ℕ, zero, suc, _+_, _-_}
 use lib.ListN.{set, replicate}
 use lib.Dec.{eqb}

@@ -3,9 +3,8 @@
 // Changed: ported from Rust to Rattle, over nodes and runs of words in a pool.
 
 ghost use mathlib.Core.Path.{_≡_};
-ghost use Prim.Native.Nat.{ℕ, _+_, _<_, _≤_};
+ghost use Prim.Native.Nat.{_+_, _<_, _≤_};
 ghost use lib.ListN.{length};
-ghost use Rattle.rows.specs.Kind.{Kinds};
 ghost use Rattle.pool.specs.Building.{opened, append-row, finished, Open};
 ghost use Rattle.pool.specs.Seen.{memory-of};
 use crate::node::FLAT;

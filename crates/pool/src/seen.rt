@@ -1,6 +1,6 @@
 ghost use mathlib.Core.Path.{_≡_};
-ghost use Prim.Native.Nat.{ℕ, _+_, _<_, _≤_};
-ghost use lib.ListN.{length, take, drop};
+ghost use Prim.Native.Nat.{_+_, _<_, _≤_};
+ghost use lib.ListN.{length};
 ghost use Rattle.pool.specs.Memory.{empty-memory, startAt, runAt, run-of};
 ghost use Rattle.pool.specs.Seen.{memory-of, nodes-used, words-used};
 use crate::node::Node;

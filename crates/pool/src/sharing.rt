@@ -3,8 +3,7 @@
 // Changed: ported from Rust to Rattle, over nodes and runs of words in a pool.
 
 ghost use mathlib.Core.Path.{_≡_};
-ghost use Prim.Native.Nat.{ℕ, suc, _+_, _<_, _≤_};
-ghost use lib.ListN.{length};
+ghost use Prim.Native.Nat.{ℕ, _+_, _<_};
 ghost use Rattle.pool.specs.Memory.{countAt, heightAt};
 ghost use Rattle.pool.specs.Counts.{Falling, Owed, OwedAll, tallest};
 ghost use Rattle.pool.specs.Order.{Within};

@@ -1,6 +1,6 @@
 -- A kind of two words a row: the value, and beside it the value with every bit turned.
 use mathlib.Core.Bool.{true}
-use Prim.Native.Nat.{ℕ, _+_, _-_, _*_}
+use Prim.Native.Nat.{_+_, _-_, _*_}
 use lib.ListN.{getD, set}
 use Rattle.rows.specs.Kind.{Kind}
 use Rattle.rows.specs.Ours.{number}

@@ -1,6 +1,5 @@
-use mathlib.Core.Path.{_≡_, ap, sym, _∙_}
-use mathlib.Core.List.{List}
-use Prim.Native.Nat.{ℕ, _+_, _*_}
+use mathlib.Core.Path.{_≡_, ap, _∙_}
+use Prim.Native.Nat.{_+_, _*_}
 use lib.ListN.{take}
 use Rattle.lines.specs.Parse.{longest, asked}
 use Rattle.lines.proofs.Keeping.{cut-asks}

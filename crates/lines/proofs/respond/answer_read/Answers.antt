@@ -1,9 +1,8 @@
-use borrow.Author.Needs.{needs}
-use mathlib.Core.Path.{_≡_, refl, sym, ap, subst, _∙_}
+use mathlib.Core.Path.{refl, sym, subst, _∙_}
 use Rattle.rows.specs.Kind.{Kinds}
 use Rattle.encodings.specs.Meaning.{Encodings}
 use Rattle.planner.specs.Calls.{Said, read}
-use Rattle.planner.specs.Called.{State, read-out}
+use Rattle.planner.specs.Called.{State}
 use Rattle.planner.specs.Seen.{state-of}
 use Rattle.lines.specs.Append.{Wrote}
 use Rattle.lines.specs.Written.{Short, written}

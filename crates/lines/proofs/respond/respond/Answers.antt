@@ -1,12 +1,10 @@
-use borrow.Author.Needs.{needs}
-use mathlib.Core.Path.{_≡_, refl, sym, ap, subst, _∙_}
+use mathlib.Core.Path.{_≡_, refl, sym, ap, subst}
 use Rattle.std.specs.declared.option.Option.{Option}
-use Rattle.std.specs.declared.option.Option.the-variants.{Some, None}
+use Rattle.std.specs.declared.option.Option.the-variants.{None}
 use Rattle.rows.specs.Kind.{Kinds}
 use Rattle.encodings.specs.Meaning.{Encodings}
 use Rattle.planner.specs.Calls.{Told, Said}
 use Rattle.planner.specs.Called.{State}
-use Rattle.planner.specs.Law.{History, Reached}
 use Rattle.planner.specs.Seen.{state-of}
 use Rattle.planner.proofs.Histories.{history-law}
 use Rattle.lines.specs.Append.{Wrote}

@@ -1,8 +1,6 @@
-use borrow.Author.Needs.{needs}
 use native.Mathlib.Omega.{arith}
-use mathlib.Core.Path.{_≡_, refl, sym}
-use Rattle.std.specs.declared.option.Option.the-variants.{Some, None}
-use Rattle.lines.specs.Text.{digit, decoded}
+use mathlib.Core.Path.{sym}
+use Rattle.lines.specs.Text.{decoded}
 use Rattle.lines.proofs.Decoding.{after-none, decode-more, decode-high, decode-low, decode-all, decoded-odd}
 use Rattle.lines.proofs.text.decode.Needs as need
 

@@ -2,7 +2,6 @@ use mathlib.Core.Path.{_≡_}
 use mathlib.Core.List.{_++_}
 use Prim.Native.Nat.{_≤_}
 use lib.ListN.{take}
-use denote.Ref.{now}
 use Rattle.std.specs.Of.Vec.{vec-items, vec-cap}
 use Rattle.lines.specs.Text.{spelled}
 use Rattle.lines.proofs.write.write_row.Given as given

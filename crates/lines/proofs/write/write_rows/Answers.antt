@@ -1,15 +1,11 @@
 use native.Mathlib.Omega.{arith}
-use mathlib.Core.Path.{_≡_, refl, sym, _∙_, ap}
-use mathlib.Core.Bool.{true}
-use mathlib.Core.List.{List, [], _∷_, _++_, map}
-use Prim.Native.Nat.{ℕ}
+use mathlib.Core.Path.{_∙_, ap}
+use mathlib.Core.List.{map}
 use Rattle.std.specs.Of.Vec.{vec-items}
 use Rattle.std.specs.Joined.{joined}
 use Rattle.std.specs.Iters.{counting}
 use Rattle.std.proofs.shelf.Results.{err-from-errBy}
-use Rattle.rows.specs.declared.row.Row.{Row}
 use Rattle.rows.specs.Kind.{rows}
-use Rattle.lines.specs.Text.{spelled}
 use Rattle.lines.proofs.Spelling.{rows-more, rows-fit, no-room}
 use Rattle.lines.proofs.write.write_rows.Needs as need
 

@@ -1,12 +1,8 @@
-use borrow.Author.Needs.{needs}
 use native.Mathlib.Omega.{arith}
-use mathlib.Core.Path.{_≡_, sym, ap, subst, _∙_}
-use mathlib.Core.List.{List}
+use mathlib.Core.Path.{_≡_, sym, ap, _∙_}
 use Prim.Native.Nat.{ℕ, _+_, _-_, _*_, _≤_}
 use lib.ListN.{length, take, drop}
-use Rattle.std.specs.declared.option.Option.{Option}
 use Rattle.std.specs.declared.option.Option.the-variants.{Some, None}
-use Rattle.rows.specs.declared.row.Row.{Row}
 use Rattle.rows.specs.Kind.{Kind}
 use Rattle.planner.proofs.Parsing.{parse-stops, parse-goes, row-within, row-bytes}
 use Rattle.planner.proofs.make.all_parse.Needs as need

@@ -1,24 +1,21 @@
-use borrow.Author.Needs.{needs}
 use native.Mathlib.Omega.{arith}
 use mathlib.Core.Path.{_≡_, refl, sym, ap, subst, _∙_}
-use mathlib.Core.Bool.{true}
 use mathlib.Core.List.{List}
-use Prim.Native.Nat.{ℕ, _+_, _-_, _*_, _<_, _≤_}
+use Prim.Native.Nat.{ℕ, _+_, _-_, _*_, _≤_}
 use lib.ListN.{length, getD, take, drop}
 use Rattle.std.proofs.shelf.Lists.{take-all}
-use Rattle.std.specs.declared.option.Option.{Option}
 use Rattle.std.specs.declared.option.Option.the-variants.{Some, None}
 use Rattle.std.specs.declared.result.Result.{Result}
-use Rattle.std.specs.declared.result.Result.the-variants.{Ok, Err}
+use Rattle.std.specs.declared.result.Result.the-variants.{Ok}
 use Rattle.rows.specs.declared.row.Row.{Row}
 use Rattle.rows.specs.Kind.{Kind, Kinds, LawfulKind}
 use Rattle.pool.specs.declared.node.PoolFault.{PoolFault}
 use Rattle.pool.specs.Memory.{Memory}
-use Rattle.pool.specs.Building.{opened, append-row, append-rows, finished, built, Open}
+use Rattle.pool.specs.Building.{opened, append-row, append-rows, finished, Open}
 use Rattle.pool.specs.Seen.{memory-of}
 use Rattle.planner.specs.Contract.{rows-parsed}
 use Rattle.planner.proofs.Parsing.{row-within, row-bytes, parsed-some, parsed-long}
-use Rattle.planner.proofs.Filling.{Opened, opened-ok, open-at, builder-inside, append-step, built-ok}
+use Rattle.planner.proofs.Filling.{opened-ok, open-at, builder-inside, append-step, built-ok}
 use Rattle.planner.proofs.make.build.Needs as need
 use Rattle.planner.proofs.make.build.Needs.{in-Some, in-rest}
 

@@ -1,5 +1,5 @@
 use mathlib.Core.Path.{_≡_}
-use Prim.Native.Nat.{_-_, _*_}
+use Prim.Native.Nat.{_-_}
 use lib.ListN.{take}
 use Rattle.pool.specs.Building.{append-rows}
 use Rattle.pool.specs.Seen.{memory-of}

@@ -1,4 +1,3 @@
-use borrow.Author.Needs.{needs}
 use native.Mathlib.Omega.{arith}
 use mathlib.Core.Path.{_≡_, refl, sym, ap, subst, _∙_}
 use mathlib.Core.List.{List, [], _++_, map}
@@ -9,7 +8,6 @@ use Rattle.rows.specs.Kind.{Kinds}
 use Rattle.planner.specs.declared.call.Call.{Call}
 use Rattle.planner.specs.Calls.{Said, told}
 use Rattle.planner.specs.Contract.{played, answers}
-use Rattle.planner.specs.Law.{History}
 use Rattle.planner.specs.Seen.{state-of}
 use Rattle.planner.proofs.Histories.{history-law}
 use Rattle.planner.proofs.Playing.{play-more, played-answered}

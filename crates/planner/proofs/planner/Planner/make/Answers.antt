@@ -1,29 +1,26 @@
-use borrow.Author.Needs.{needs}
 use native.Mathlib.Omega.{arith}
 use mathlib.Core.Path.{_≡_, refl, sym, ap, subst, _∙_}
-use mathlib.Core.Bool.{Bool, true, false}
-use mathlib.Core.List.{List, _∷_}
-use Prim.Native.Nat.{ℕ, _*_, _<_, _≤_}
+use mathlib.Core.Bool.{true, false}
+use mathlib.Core.List.{List}
+use Prim.Native.Nat.{ℕ}
 use lib.ListN.{length, set}
 use lib.Dec.{ltb}
 use Rattle.std.proofs.shelf.Lists.{length-set}
 use Rattle.std.proofs.shelf.Tests.{lt-ltb, le-ltb}
 use Rattle.std.proofs.shelf.Results.{err-from-errBy}
-use Rattle.std.specs.Options.{isSome}
 use Rattle.std.specs.declared.option.Option.{Option}
 use Rattle.std.specs.declared.option.Option.the-variants.{Some, None}
 use Rattle.std.specs.declared.result.Result.{Result}
 use Rattle.std.specs.declared.result.Result.the-variants.{Ok, Err}
 use Rattle.rows.specs.declared.row.Row.{Row}
-use Rattle.rows.specs.Kind.{Kind, Kinds}
+use Rattle.rows.specs.Kind.{Kinds}
 use Rattle.pool.specs.declared.node.PoolFault.{PoolFault}
 use Rattle.pool.specs.Memory.{Memory}
 use Rattle.pool.specs.Building.{built}
-use Rattle.pool.specs.Counts.{names}
 use Rattle.pool.specs.Seen.{memory-of}
 use Rattle.planner.specs.declared.call.Refusal.the-variants.{RootTaken}
 use Rattle.planner.specs.Calls.{Said, refused}
-use Rattle.planner.specs.Called.{State, root-at, in-range, sized, rows-made, placed}
+use Rattle.planner.specs.Called.{State, root-at, sized, rows-made, placed}
 use Rattle.planner.specs.Contract.{outcome, rows-parsed}
 use Rattle.planner.specs.Seen.{state-of}
 use Rattle.planner.proofs.Invariant.{Ghosts, ghosts-of, ordered-of}

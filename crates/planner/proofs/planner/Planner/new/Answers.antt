@@ -1,9 +1,8 @@
-use borrow.Author.Needs.{needs}
-use mathlib.Core.Path.{_≡_, refl, sym, subst, ap, _∙_}
+use mathlib.Core.Path.{_≡_, refl, sym, subst, ap}
 use lib.ListN.{replicate}
 use Rattle.std.specs.declared.option.Option.the-variants.{None}
 use Rattle.pool.specs.Memory.{Memory}
-use Rattle.planner.specs.Called.{State, new-state}
+use Rattle.planner.specs.Called.{new-state}
 use Rattle.planner.proofs.Invariant.{Ghosts, ghosts-of}
 use Rattle.planner.proofs.Beginning.{new-ordered}
 use Rattle.planner.proofs.planner.Planner.new.Needs as need

@@ -1,14 +1,11 @@
-use borrow.Author.Needs.{needs}
-use native.Mathlib.Omega.{arith}
-use mathlib.Core.Path.{_≡_, refl, sym, subst, ap, _∙_}
-use mathlib.Core.Bool.{Bool, true, false}
+use mathlib.Core.Path.{refl, ap, _∙_}
+use mathlib.Core.Bool.{true, false}
 use mathlib.Core.List.{List}
-use Prim.Native.Nat.{ℕ, _<_, _≤_}
-use lib.Dec.{ltb, eqb}
+use Prim.Native.Nat.{ℕ}
 use Rattle.std.specs.declared.option.Option.the-variants.{Some, None}
 use Rattle.std.proofs.shelf.Tests.{lt-ltb, le-ltb, eq-eqb, ne-eqb}
-use Rattle.pool.specs.Memory.{node-at, startAt, run-of}
-use Rattle.planner.specs.Calls.{Said, rows, refused}
+use Rattle.pool.specs.Memory.{node-at, startAt}
+use Rattle.planner.specs.Calls.{Said, rows}
 use Rattle.planner.specs.Called.{State, root-at}
 use Rattle.planner.specs.Seen.{state-of}
 use Rattle.planner.proofs.Outcomes.{does, read-is, handed-is}

@@ -1,4 +1,4 @@
-use mathlib.Core.Path.{_≡_, sym, _∙_}
+use mathlib.Core.Path.{_∙_}
 use native.Mathlib.Omega.{arith}
 use Rattle.pool.specs.Memory.{blank}
 use Rattle.pool.proofs.Found.{unused-next, unused-all}
