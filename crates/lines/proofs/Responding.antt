@@ -1,5 +1,5 @@
 -- What a call's promise gives for the line that stands for it.
-use mathlib.Core.Path.{_≡_, ap, subst}
+use mathlib.Core.Path.{subst}
 use Prim.Native.Nat.{ℕ}
 use Rattle.std.specs.declared.result.Result.{Result}
 use Rattle.std.specs.declared.result.Result.the-variants.{Ok, Err}
@@ -10,18 +10,12 @@ use Rattle.planner.specs.Calls.{Told, read, Said, done, rows, refused}
 use Rattle.planner.specs.Called.{State, called}
 use Rattle.planner.specs.Contract.{outcome, Does}
 use Rattle.planner.specs.Law.{History, Reached, Extends, Reads}
+use Rattle.planner.proofs.Outcomes.{does-called}
 use Rattle.lines.specs.Written.{Short}
 
-module _ (ks : Kinds) (es : Encodings) (s : State) (c : Told) (a : Said) (t : State) (d : Does ks es s c a t) where
-  pub answer-is : a ≡ called ks s c .0
-  answer-is = ap (λ (p : Said × State). p .0) (d .value)
-
-  pub state-is : t ≡ called ks s c .1
-  state-is = ap (λ (p : Said × State). p .1) (d .value)
-
-  -- the history goes on by the call
-  pub goes-on : (h : History) → Reached ks h s → Extends ks es h c (called ks s c .0) t
-  goes-on h r = subst (λ (x : Said). Extends ks es h c x t) answer-is (d .law h r)
+-- the history goes on by the call
+pub goes-on : (ks : Kinds) (es : Encodings) (s : State) (c : Told) (a : Said) (t : State) → Does ks es s c a t → (h : History) → Reached ks h s → Extends ks es h c (called ks s c .0) t
+goes-on ks es s c a t d h r = does-called ks es s c a t d .law h r
 
 -- an answer that hands nothing out has no rows
 pub outcome-short : (r : Result (Unit {0}) Refusal) → Short (outcome r)

@@ -1,5 +1,5 @@
 -- The definition of each call, by what its checks find.
-use mathlib.Core.Path.{_≡_, refl, sym, ap, _∙_}
+use mathlib.Core.Path.{_≡_, refl, sym, ap, subst, _∙_}
 use mathlib.Core.Bool.{Bool, true, false, _&&_}
 use mathlib.Core.List.{List}
 use Prim.Native.Nat.{ℕ}
@@ -107,3 +107,15 @@ taken-by x y (Some k) e = refl
 pub empty-by : (o : Option ℕ) → isSome o ≡ false → o ≡ None
 empty-by None e = refl
 empty-by (Some k) e = let z : _≡_ {A = ℕ} 0 1 = cc in absurd (omega arith)
+
+module _ (ks : Kinds) (es : Encodings) (s : State) (c : Told) (a : Said) (t : State) (d : Does ks es s c a t) where
+  -- the answer and the state of a call that did what it promises
+  pub answer-is : a ≡ called ks s c .0
+  answer-is = ap (λ (p : Said × State). p .0) (d .value)
+
+  pub state-is : t ≡ called ks s c .1
+  state-is = ap (λ (p : Said × State). p .1) (d .value)
+
+  -- the same promise, with the answer by its definition
+  pub does-called : Does ks es s c (called ks s c .0) t
+  does-called = subst (λ (x : Said). Does ks es s c x t) answer-is d

@@ -1,10 +1,9 @@
-ghost use mathlib.Core.Path.{_≡_};
 ghost use mathlib.Core.List.{[], _∷_, map};
 ghost use Rattle.planner.specs.Called.{called};
 ghost use Rattle.planner.specs.Calls.{told, Hears};
 ghost use Rattle.planner.specs.Contract.{played, answers};
 ghost use Rattle.planner.specs.Law.{Law};
-ghost use Rattle.planner.specs.Seen.{state-of};
+ghost use Rattle.planner.specs.Seen.{state-of, Answers};
 use crate::answer::answer;
 use crate::answer::read_answer;
 use crate::call::Call;
@@ -22,9 +21,7 @@ impl<K: RowKinds, E: Encoding, B: Bank, M: Matcher> Planner<'_, K, E, B, M> {
     // One call, and its answer handed to a listener.
     pub fn serve<L: Listener>(&mut self, call: Call, listener: &mut L)
         ensures heard { λ _. ⌜ Hears (L·Listener .hears) (now (listener .entry)) (now (listener .exit)) (called (K·RowKinds .kinds (now (self .entry) .kinds)) (state-of (now (self .entry))) (told (call .entry)) .0 ∷ []) ⌝ }
-        ensures state { λ _. ⌜ state-of (now (self .exit)) ≡ called (K·RowKinds .kinds (now (self .entry) .kinds)) (state-of (now (self .entry))) (told (call .entry)) .1 ⌝ }
-        ensures kinds { λ _. ⌜ now (self .exit) .kinds ≡ now (self .entry) .kinds ⌝ }
-        ensures encodings { λ _. ⌜ now (self .exit) .encodings ≡ now (self .entry) .encodings ⌝ }
+        ensures answers { λ _. ⌜ Answers (K·RowKinds .kinds) (E·Encoding .means) (now (self .entry)) (now (self .exit)) (told (call .entry)) (called (K·RowKinds .kinds (now (self .entry) .kinds)) (state-of (now (self .entry))) (told (call .entry)) .0) ⌝ }
     {
         match call {
             Call::Make {

@@ -6,7 +6,8 @@ use Rattle.planner.specs.Called.{State}
 use Rattle.planner.specs.Seen.{state-of}
 use Rattle.lines.specs.Append.{Wrote}
 use Rattle.lines.specs.Written.{Short, written}
-use Rattle.lines.proofs.Responding.{answer-is, goes-on, reading-short}
+use Rattle.planner.proofs.Outcomes.{answer-is}
+use Rattle.lines.proofs.Responding.{goes-on, reading-short}
 use Rattle.lines.proofs.respond.answer_read.Needs as need
 
 pub returns : need.returns

@@ -10,6 +10,7 @@ use Rattle.planner.specs.Calls.{Said, told}
 use Rattle.planner.specs.Contract.{played, answers}
 use Rattle.planner.specs.Seen.{state-of}
 use Rattle.planner.proofs.Histories.{history-law}
+use Rattle.planner.proofs.Outcomes.{state-is}
 use Rattle.planner.proofs.Playing.{play-more, played-answered}
 use Rattle.planner.proofs.replay.replay.Needs as need
 
@@ -25,11 +26,11 @@ pub loop-call-again : need.loop-call-again
 loop-call-again g c =
     let k = c .loop-call .inv .2 in
     let p = play-more (g .K·RowKinds .kinds (c .new-planner .result .kinds)) (g .K·RowKinds .kinds (c .loop-call .planner .kinds)) (ap (λ x. g .K·RowKinds .kinds x) k)
-    (c .args .calls .now) (c .loop-call .call-index) _ (c .loop-call-test .taken) (state-of (c .loop-call .planner)) (state-of (c .serve .last .self)) (c .loop-call .inv .1) (c .serve .ensures .state) in (
+    (c .args .calls .now) (c .loop-call .call-index) _ (c .loop-call-test .taken) (state-of (c .loop-call .planner)) (state-of (c .serve .last .self)) (c .loop-call .inv .1) (state-is _ _ _ _ _ _ (c .serve .ensures .answers .does)) in (
       (λ before h. subst (λ (l : List Said). g .L·Listener .hears (c .serve .last .listener) l) (p .0 before) (c .serve .ensures .heard _ (c .loop-call .inv .0 before h))),
       p .1,
-      c .serve .ensures .kinds ∙ k,
-      c .serve .ensures .encodings ∙ c .loop-call .inv .3,
+      c .serve .ensures .answers .kinds ∙ k,
+      c .serve .ensures .answers .encodings ∙ c .loop-call .inv .3,
     )
 
 pub returns : need.returns
