@@ -1,3 +1,5 @@
+#![tactic(auto)]
+
 pub mod encoding;
 pub mod flat;
 pub mod matcher;

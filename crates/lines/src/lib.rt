@@ -1,3 +1,5 @@
+#![tactic(auto)]
+
 pub mod buffer;
 pub mod parse;
 pub mod respond;

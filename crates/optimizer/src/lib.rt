@@ -2,6 +2,8 @@
 // SPDX-FileCopyrightText: Copyright the Vortex contributors
 // Changed: ported from Rust to Rattle; kernels are codes of a bank in place of function pointers.
 
+#![tactic(auto)]
+
 ghost use Rattle.std.specs.Prelude.{◌≡◌, Bool, false, ℕ};
 
 // Rules and kernels. So far it says which kernel codes exist.

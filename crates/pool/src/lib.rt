@@ -1,3 +1,5 @@
+#![tactic(auto)]
+
 pub mod builder;
 pub mod finding;
 pub mod node;

@@ -1,3 +1,5 @@
+#![tactic(auto)]
+
 pub mod append;
 pub mod kind;
 pub mod kinds;

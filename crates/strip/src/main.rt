@@ -1,3 +1,5 @@
+#![tactic(auto)]
+
 use encodings::encoding::Encoding;
 use encodings::flat::Flat;
 use encodings::matcher::{AnyCanonical, Matcher};

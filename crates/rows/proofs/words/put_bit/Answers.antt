@@ -17,4 +17,4 @@ overflow-add-result c =
 
 pub returns : goal.returns
 returns c =
-    omega (arith, old_bit c.args.word c.args.j c.bit-of.result c.requires.inside c.bit-of.ensures, bit_shifted c.args.v c.args.j c.requires.small c.requires.inside)
+    omega (arith, old_bit c.args.word c.args.j c.bit_of.result c.requires.inside c.bit_of.ensures, bit_shifted c.args.v c.args.j c.requires.small c.requires.inside)
