@@ -6,4 +6,4 @@ pub returns : goal.returns
 returns g c =
     let two = c.to-be-bytes.result in
     let b = two_bytes c.args.reading.len two (omega arith) c.to-be-bytes.ensures in
-    record { items = rw (sym b.0, sym b.1) (appended_then c.write-rows.result c.args.out.now c.push-bytes.new.out c.write-rows.new.out (0 ∷ c.args.reading.kind ∷ get_or two 0 0 ∷ get_or two 1 0 ∷ []) _ c.in-ok-push-bytes.ensures.items c.push-bytes.ensures.capacity c.write-rows.ensures.items); capacity = omega arith }
+    record { items = rw (sym b.0, sym b.1) (appended_then c.write-rows.result c.args.out.now c.push-bytes.new.out c.write-rows.new.out (0 ∷ c.args.reading.kind ∷ get_or two 0 0 ∷ get_or two 1 0 ∷ []) _ c.in_ok-push-bytes.ensures.items c.push-bytes.ensures.capacity c.write-rows.ensures.items); capacity = omega arith }

@@ -3,8 +3,8 @@ use Rattle.rows.specs.Kind.{Kind}
 use Rattle.planner.proofs.Parsing.{parse_stops, parse_goes, row_within, row_bytes}
 use Rattle.planner.proofs.make.all_parse.Goals as goal
 
-pub slice-bounds-parse-end : goal.slice-bounds-parse-end
-slice-bounds-parse-end g c =
+pub slice_bounds-parse-end : goal.slice_bounds-parse-end
+slice_bounds-parse-end g c =
     let w : ℕ = c.width-width.result in
     let all : length c.args.rows.now ≡ c.args.len * w = c.requires ∙ ap (λ (x : ℕ). c.args.len * x) (sym c.width-width.ensures) in
     let last : c.loop-k.k * w + w ≤ c.args.len * w = row_within w c.args.len c.loop-k.k c.loop-k-test.true in
@@ -20,6 +20,6 @@ returns-in-None g c =
 pub loop-k-preserved : goal.loop-k-preserved
 loop-k-preserved g c =
     let kd : Kind = (g.K.RowKinds.kinds c.args.kinds.now).kind c.args.kind in
-    let some : kd.parsed (take kd.width (drop (c.loop-k.k * kd.width) c.args.rows.now)) ≡ Some c.in-default.field-0
-    = sym (c.in-default.ensures ∙ row_bytes kd c.loop-k.k c.width-width.result c.args.rows.now c.width-width.ensures) in
-    parse_goes kd c.args.len c.args.rows.now c.loop-k.k c.loop-k-test.true c.in-default.field-0 some ∙ c.loop-k.invariant
+    let some : kd.parsed (take kd.width (drop (c.loop-k.k * kd.width) c.args.rows.now)) ≡ Some c.in_default.field-0
+    = sym (c.in_default.ensures ∙ row_bytes kd c.loop-k.k c.width-width.result c.args.rows.now c.width-width.ensures) in
+    parse_goes kd c.args.len c.args.rows.now c.loop-k.k c.loop-k-test.true c.in_default.field-0 some ∙ c.loop-k.invariant

@@ -10,10 +10,10 @@ use Rattle.planner.specs.Contract.{rows_parsed}
 use Rattle.planner.proofs.Parsing.{row_within, row_bytes, parsed_some, parsed_long}
 use Rattle.planner.proofs.Filling.{opened_ok, open_at, builder_inside, append_step, built_ok}
 use Rattle.planner.proofs.make.build.Goals as goal
-use Rattle.planner.proofs.make.build.Goals.{in-Some, in-default}
+use Rattle.planner.proofs.make.build.Goals.{in-Some, in_default}
 
-pub slice-bounds-parse-end : goal.slice-bounds-parse-end
-slice-bounds-parse-end g c =
+pub slice_bounds-parse-end : goal.slice_bounds-parse-end
+slice_bounds-parse-end g c =
     let w : ℕ = c.width-width.result in
     let all : length c.args.rows.now ≡ c.args.len * w = c.requires.bytes ∙ ap (λ (x : ℕ). c.args.len * x) (sym c.width-width.ensures) in
     let last : c.loop-k.k * w + w ≤ c.args.len * w = row_within w c.args.len c.loop-k.k c.loop-k-test.true in
@@ -25,9 +25,9 @@ append-requires g c =
     let kd : Kind = ks.kind c.args.kind in
     let law : LawfulKind kd = (g.met.K.RowKinds.lawful c.args.kinds.now).lawful c.args.kind in
     let q : Memory = memory_of c.open-builder.new.self in
-    let i : ℕ = c.in-ok-node.node in
+    let i : ℕ = c.in_ok-node.node in
     let e : (Ok i, q) ≡ opened (memory_of c.args.pool.now) c.args.kind c.args.len (kd.words c.args.len)
-    = ap (λ (r : Result ℕ PoolFault). (r, q)) (sym c.in-ok-node.was) ∙ c.open-builder.ensures in
+    = ap (λ (r : Result ℕ PoolFault). (r, q)) (sym c.in_ok-node.was) ∙ c.open-builder.ensures in
     let rs : List Row = rows_parsed kd c.args.len c.args.rows.now in
     let o = open_at ks (memory_of c.args.pool.now) q c.args.kind c.args.len (kd.words c.args.len) i law
     (opened_ok (memory_of c.args.pool.now) c.args.kind c.args.len (kd.words c.args.len) i q e)
@@ -43,7 +43,7 @@ loop-k-preserved g c =
     let kd : Kind = ks.kind c.args.kind in
     let law : LawfulKind kd = (g.met.K.RowKinds.lawful c.args.kinds.now).lawful c.args.kind in
     let q : Memory = memory_of c.open-builder.new.self in
-    let i : ℕ = c.in-ok-node.node in
+    let i : ℕ = c.in_ok-node.node in
     let k : ℕ = c.loop-k.k in
     let rs : List Row = rows_parsed kd c.args.len c.args.rows.now in
     let long : length rs ≡ c.args.len = parsed_long kd law c.args.len c.args.rows.now c.requires.parse in
@@ -65,8 +65,8 @@ loop-k-preserved g c =
             ap (λ b. b.node) w.builder-is ∙ w.append.ensures.node ∙ c.loop-k.invariant.1,
             omega (arith, ap (λ b. b.filled) w.builder-is, w.append.ensures.filled, c.loop-k.invariant.2),
           )
-      | in-default w ↦
-          let none : None ≡ Some (get_or rs k d) = w.in-default.ensures ∙ bytes ∙ at in
+      | in_default w ↦
+          let none : None ≡ Some (get_or rs k d) = w.in_default.ensures ∙ bytes ∙ at in
           let z : ◌≡◌ {A = ℕ} 0 1 = cc in absurd (omega arith)
     ]
 
@@ -76,9 +76,9 @@ finish-requires g c =
     let kd : Kind = ks.kind c.args.kind in
     let law : LawfulKind kd = (g.met.K.RowKinds.lawful c.args.kinds.now).lawful c.args.kind in
     let q : Memory = memory_of c.open-builder.new.self in
-    let i : ℕ = c.in-ok-node.node in
+    let i : ℕ = c.in_ok-node.node in
     let e : (Ok i, q) ≡ opened (memory_of c.args.pool.now) c.args.kind c.args.len (kd.words c.args.len)
-    = ap (λ (r : Result ℕ PoolFault). (r, q)) (sym c.in-ok-node.was) ∙ c.open-builder.ensures in
+    = ap (λ (r : Result ℕ PoolFault). (r, q)) (sym c.in_ok-node.was) ∙ c.open-builder.ensures in
     let h = builder_inside ks (memory_of c.args.pool.now) q c.args.kind c.args.len (kd.words c.args.len) i law
     (opened_ok (memory_of c.args.pool.now) c.args.kind c.args.len (kd.words c.args.len) i q e)
     (take c.loop-k.k (rows_parsed kd c.args.len c.args.rows.now)) in
@@ -90,9 +90,9 @@ returns g c =
     let kd : Kind = ks.kind c.args.kind in
     let law : LawfulKind kd = (g.met.K.RowKinds.lawful c.args.kinds.now).lawful c.args.kind in
     let q : Memory = memory_of c.open-builder.new.self in
-    let i : ℕ = c.in-ok-node.node in
+    let i : ℕ = c.in_ok-node.node in
     let e : (Ok i, q) ≡ opened (memory_of c.args.pool.now) c.args.kind c.args.len (kd.words c.args.len)
-    = ap (λ (r : Result ℕ PoolFault). (r, q)) (sym c.in-ok-node.was) ∙ c.open-builder.ensures in
+    = ap (λ (r : Result ℕ PoolFault). (r, q)) (sym c.in_ok-node.was) ∙ c.open-builder.ensures in
     let rs : List Row = rows_parsed kd c.args.len c.args.rows.now in
     let long : length rs ≡ c.args.len = parsed_long kd law c.args.len c.args.rows.now c.requires.parse in
     let all : take c.loop-k.k rs ≡ rs = take_all c.loop-k.k rs (omega arith) in

@@ -4,7 +4,7 @@ use Rattle.planner.specs.Contract.{roots_used}
 use Rattle.planner.proofs.Counting.{used_more}
 use Rattle.planner.proofs.Histories.{history_law}
 use Rattle.planner.proofs.planner.Planner.inspect.Goals as goal
-use Rattle.planner.proofs.planner.Planner.inspect.Goals.{in-Some, in-default}
+use Rattle.planner.proofs.planner.Planner.inspect.Goals.{in-Some, in_default}
 
 pub loop-root-preserved : goal.loop-root-preserved
 loop-root-preserved g c =
@@ -13,7 +13,7 @@ loop-root-preserved g c =
     let long : length rs ≡ 32 = c.args.self.now.roots_long in
     elim c.match-root.branch [
       | in-Some w ↦ let m = used_more rs i _ (omega arith) w.in-Some.is in (omega (arith, w.roots-is, c.loop-root.invariant.0), omega (arith, w.roots-is, c.loop-root.invariant.1))
-      | in-default w ↦ let m = used_more rs i _ (omega arith) w.in-default.is in (omega (arith, w.roots-is, c.loop-root.invariant.0), omega (arith, w.roots-is, c.loop-root.invariant.1))
+      | in_default w ↦ let m = used_more rs i _ (omega arith) w.in_default.is in (omega (arith, w.roots-is, c.loop-root.invariant.0), omega (arith, w.roots-is, c.loop-root.invariant.1))
     ]
 
 pub returns : goal.returns

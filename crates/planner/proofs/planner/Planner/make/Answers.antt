@@ -75,26 +75,26 @@ build-requires g c =
       parse = known.1;
     }
 
-pub invariant-of-self : goal.invariant-of-self
-invariant-of-self g c =
+pub invariant_of-self : goal.invariant_of-self
+invariant_of-self g c =
     let ks : Kinds = g.K.RowKinds.kinds c.args.self.now.kinds in
     let m : Memory = (state_of c.args.self.now).memory in
     let known = made_known ks c.args.kind c.args.len c.args.rows.now (sym c.if-not-are-rows.ensures) in
-    let e : (Err c.in-err-node.field-0.0, memory_of c.build.new.pool) ≡ built ks m c.args.kind c.args.len (rows_parsed (ks.kind c.args.kind) c.args.len c.args.rows.now)
-    = ap (λ (r : Result ℕ PoolFault). (r, memory_of c.build.new.pool)) (sym c.in-err-node.was) ∙ c.build.ensures in
+    let e : (Err c.in_err-node.field-0.0, memory_of c.build.new.pool) ≡ built ks m c.args.kind c.args.len (rows_parsed (ks.kind c.args.kind) c.args.len c.args.rows.now)
+    = ap (λ (r : Result ℕ PoolFault). (r, memory_of c.build.new.pool)) (sym c.in_err-node.was) ∙ c.build.ensures in
     let same : memory_of c.build.new.pool ≡ m
-    = build_kept ks c.args.kind c.args.len c.args.rows.now m c.args.self.now.roots (ordered_of c.args.self.now) ((g.met.K.RowKinds.lawful c.args.self.now.kinds).lawful c.args.kind) known.1 c.in-err-node.field-0.0 (memory_of c.build.new.pool) e in
+    = build_kept ks c.args.kind c.args.len c.args.rows.now m c.args.self.now.roots (ordered_of c.args.self.now) ((g.met.K.RowKinds.lawful c.args.self.now.kinds).lawful c.args.kind) known.1 c.in_err-node.field-0.0 (memory_of c.build.new.pool) e in
     subst (λ (x : Memory). Ghosts x c.args.self.now.roots) (sym same) (ghosts_of m c.args.self.now.roots c.args.self.now.roots_long (ordered_of c.args.self.now))
 
-pub returns-in-err-node : goal.returns-in-err-node
-returns-in-err-node g c =
+pub returns-in_err-node : goal.returns-in_err-node
+returns-in_err-node g c =
     let p = err_from_is_err_and c.from-residual.result c.from-residual.ensures.1 in
     let s : State = state_of c.args.self.now in
     let ks : Kinds = g.K.RowKinds.kinds c.args.self.now.kinds in
     let rs : List Row = rows_parsed (ks.kind c.args.kind) c.args.len c.args.rows.now in
     let known = made_known ks c.args.kind c.args.len c.args.rows.now (sym c.if-not-are-rows.ensures) in
-    let e : (Err c.in-err-node.field-0.0, memory_of c.build.new.pool) ≡ built ks s.memory c.args.kind c.args.len rs
-    = ap (λ (r : Result ℕ PoolFault). (r, memory_of c.build.new.pool)) (sym c.in-err-node.was) ∙ c.build.ensures in
+    let e : (Err c.in_err-node.field-0.0, memory_of c.build.new.pool) ≡ built ks s.memory c.args.kind c.args.len rs
+    = ap (λ (r : Result ℕ PoolFault). (r, memory_of c.build.new.pool)) (sym c.in_err-node.was) ∙ c.build.ensures in
     record {
       does = does _ _ (g.met.K.RowKinds.lawful _) (g.E.Encoding.lawful _ _) s _ _ _
           (ap (λ (a : Said). (a, record { memory = memory_of c.build.new.pool; roots = s.roots })) (ap (λ r. outcome r) p.1 ∙ ap (λ x. refused x) p.2)
@@ -105,18 +105,18 @@ returns-in-err-node g c =
       encodings = refl;
     }
 
-pub invariant-of-self-2 : goal.invariant-of-self-2
-invariant-of-self-2 g c =
+pub invariant_of-self-2 : goal.invariant_of-self-2
+invariant_of-self-2 g c =
     let ks : Kinds = g.K.RowKinds.kinds c.args.self.now.kinds in
     let m : Memory = (state_of c.args.self.now).memory in
     let long : length c.args.self.now.roots ≡ 32 = c.args.self.now.roots_long in
     let known = made_known ks c.args.kind c.args.len c.args.rows.now (sym c.if-not-are-rows.ensures) in
-    let e : (Ok c.in-ok-node.node, memory_of c.build.new.pool) ≡ built ks m c.args.kind c.args.len (rows_parsed (ks.kind c.args.kind) c.args.len c.args.rows.now)
-    = ap (λ (r : Result ℕ PoolFault). (r, memory_of c.build.new.pool)) (sym c.in-ok-node.was) ∙ c.build.ensures in
-    ghosts_of (memory_of c.build.new.pool) (set c.args.self.now.roots c.args.root (Some c.in-ok-node.node))
-    (length-set c.args.self.now.roots c.args.root (Some c.in-ok-node.node) ∙ long)
+    let e : (Ok c.in_ok-node.node, memory_of c.build.new.pool) ≡ built ks m c.args.kind c.args.len (rows_parsed (ks.kind c.args.kind) c.args.len c.args.rows.now)
+    = ap (λ (r : Result ℕ PoolFault). (r, memory_of c.build.new.pool)) (sym c.in_ok-node.was) ∙ c.build.ensures in
+    ghosts_of (memory_of c.build.new.pool) (set c.args.self.now.roots c.args.root (Some c.in_ok-node.node))
+    (length-set c.args.self.now.roots c.args.root (Some c.in_ok-node.node) ∙ long)
     (build_ordered ks c.args.kind c.args.len c.args.rows.now m c.args.self.now.roots (ordered_of c.args.self.now) ((g.met.K.RowKinds.lawful c.args.self.now.kinds).lawful c.args.kind) known.1
-    c.in-ok-node.node (memory_of c.build.new.pool) c.args.root e (omega arith) (c.root.ensures ∙ empty_by c.root.result (sym c.if-is-some.ensures)))
+    c.in_ok-node.node (memory_of c.build.new.pool) c.args.root e (omega arith) (c.root.ensures ∙ empty_by c.root.result (sym c.if-is-some.ensures)))
 
 pub returns : goal.returns
 returns g c =
@@ -124,8 +124,8 @@ returns g c =
     let ks : Kinds = g.K.RowKinds.kinds c.args.self.now.kinds in
     let rs : List Row = rows_parsed (ks.kind c.args.kind) c.args.len c.args.rows.now in
     let known = made_known ks c.args.kind c.args.len c.args.rows.now (sym c.if-not-are-rows.ensures) in
-    let e : (Ok c.in-ok-node.node, memory_of c.build.new.pool) ≡ built ks s.memory c.args.kind c.args.len rs
-    = ap (λ (r : Result ℕ PoolFault). (r, memory_of c.build.new.pool)) (sym c.in-ok-node.was) ∙ c.build.ensures in
+    let e : (Ok c.in_ok-node.node, memory_of c.build.new.pool) ≡ built ks s.memory c.args.kind c.args.len rs
+    = ap (λ (r : Result ℕ PoolFault). (r, memory_of c.build.new.pool)) (sym c.in_ok-node.was) ∙ c.build.ensures in
     record {
       does = does _ _ (g.met.K.RowKinds.lawful _) (g.E.Encoding.lawful _ _) s _ _ _
           (ap (λ (b : Result ℕ PoolFault × Memory). placed s c.args.root b) e

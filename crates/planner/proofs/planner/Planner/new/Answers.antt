@@ -5,8 +5,8 @@ use Rattle.planner.proofs.Invariant.{Ghosts, ghosts_of}
 use Rattle.planner.proofs.Beginning.{new_ordered}
 use Rattle.planner.proofs.planner.Planner.new.Goals as goal
 
-pub invariant-of-result : goal.invariant-of-result
-invariant-of-result g c = subst (λ (m : Memory). Ghosts m (replicate 32 None)) (sym c.new-pool.ensures) (ghosts_of new_state.memory (replicate 32 None) refl new_ordered)
+pub invariant_of-result : goal.invariant_of-result
+invariant_of-result g c = subst (λ (m : Memory). Ghosts m (replicate 32 None)) (sym c.new-pool.ensures) (ghosts_of new_state.memory (replicate 32 None) refl new_ordered)
 
 pub returns : goal.returns
 returns g c =

@@ -12,10 +12,10 @@ returns-then-root-ge-ROOTS g c =
     let s : State = state_of c.args.self.now in
     record { does = does _ _ (g.met.K.RowKinds.lawful _) (g.E.Encoding.lawful _ _) s s _ _ (ap (λ (a : Said). (a, s)) (read_is s c.args.root false (root_at s c.args.root) (le-ltb c.args.root 32 c.if-root-ge-ROOTS.true) refl)); kinds = refl; encodings = refl }
 
-pub returns-in-default : goal.returns-in-default
-returns-in-default g c =
+pub returns-in_default : goal.returns-in_default
+returns-in_default g c =
     let s : State = state_of c.args.self.now in
-    record { does = does _ _ (g.met.K.RowKinds.lawful _) (g.E.Encoding.lawful _ _) s s _ _ (ap (λ (a : Said). (a, s)) (read_is s c.args.root true None (lt-ltb c.args.root 32 c.if-root-ge-ROOTS.false) c.in-default.ensures)); kinds = refl; encodings = refl }
+    record { does = does _ _ (g.met.K.RowKinds.lawful _) (g.E.Encoding.lawful _ _) s s _ _ (ap (λ (a : Said). (a, s)) (read_is s c.args.root true None (lt-ltb c.args.root 32 c.if-root-ge-ROOTS.false) c.in_default.ensures)); kinds = refl; encodings = refl }
 
 pub returns-then-node-ne-FLAT : goal.returns-then-node-ne-FLAT
 returns-then-node-ne-FLAT g c =

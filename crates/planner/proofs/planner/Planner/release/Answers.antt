@@ -20,11 +20,11 @@ returns-then-root-ge-ROOTS g c =
       encodings = refl;
     }
 
-pub returns-in-default : goal.returns-in-default
-returns-in-default g c =
+pub returns-in_default : goal.returns-in_default
+returns-in_default g c =
     let s : State = state_of c.args.self.now in
     record {
-      does = does _ _ (g.met.K.RowKinds.lawful _) (g.E.Encoding.lawful _ _) s s _ _ (emptied_is s c.args.root true None (lt-ltb c.args.root 32 c.if-root-ge-ROOTS.false) c.in-default.ensures);
+      does = does _ _ (g.met.K.RowKinds.lawful _) (g.E.Encoding.lawful _ _) s s _ _ (emptied_is s c.args.root true None (lt-ltb c.args.root 32 c.if-root-ge-ROOTS.false) c.in_default.ensures);
       kinds = refl;
       encodings = refl;
     }
@@ -39,8 +39,8 @@ release-requires g c =
       within = c.args.self.now.within;
     }
 
-pub invariant-of-self : goal.invariant-of-self
-invariant-of-self g c =
+pub invariant_of-self : goal.invariant_of-self
+invariant_of-self g c =
     let m : Memory = (state_of c.args.self.now).memory in
     let long : length c.args.self.now.roots ≡ 32 = c.args.self.now.roots_long in
     subst (λ (m : Memory). Ghosts m (set c.args.self.now.roots c.args.root None)) (sym (c.release.ensures (suc (heightAt m.nodes c.in-Some.node)) (omega arith)))

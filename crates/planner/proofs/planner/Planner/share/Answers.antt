@@ -30,11 +30,11 @@ returns-then-to-ge-ROOTS g c =
       encodings = refl;
     }
 
-pub returns-in-default : goal.returns-in-default
-returns-in-default g c =
+pub returns-in_default : goal.returns-in_default
+returns-in_default g c =
     let s : State = state_of c.args.self.now in
     record {
-      does = does _ _ (g.met.K.RowKinds.lawful _) (g.E.Encoding.lawful _ _) s s _ _ (shared_is s c.args.to c.args.from true None (root_at s c.args.to) (in_range c.args.to c.args.from c.if-to-ge-ROOTS.false c.if-from-ge-ROOTS.false) c.in-default.ensures refl);
+      does = does _ _ (g.met.K.RowKinds.lawful _) (g.E.Encoding.lawful _ _) s s _ _ (shared_is s c.args.to c.args.from true None (root_at s c.args.to) (in_range c.args.to c.args.from c.if-to-ge-ROOTS.false c.if-from-ge-ROOTS.false) c.in_default.ensures refl);
       kinds = refl;
       encodings = refl;
     }
@@ -60,8 +60,8 @@ retain-requires g c =
       room = root_room (state_of c.args.self.now).memory c.args.self.now.roots o (omega arith) c.in-Some.node;
     }
 
-pub invariant-of-self : goal.invariant-of-self
-invariant-of-self g c =
+pub invariant_of-self : goal.invariant_of-self
+invariant_of-self g c =
     let p = c.args.self.now in
     let long : length c.args.self.now.roots ≡ 32 = c.args.self.now.roots_long in
     subst (λ (m : Memory). Ghosts m (set c.args.self.now.roots c.args.to (Some c.in-Some.node))) (sym c.retain.ensures)

@@ -8,7 +8,7 @@ use Rattle.pool.specs.Seen.{memory_of}
 use Rattle.pool.proofs.Counted.{owed_in}
 use Rattle.pool.proofs.Releasing.{code_sound, code_last, code_less, last_good, last_low, Left, left_none, left_some, slot_owed, slot_low}
 use Rattle.pool.proofs.pool.Pool.+release_release_slots.Goals as goal
-use Rattle.pool.proofs.pool.Pool.+release_release_slots.Goals.{release-slots-in-Some, release-slots-in-default}
+use Rattle.pool.proofs.pool.Pool.+release_release_slots.Goals.{release-slots-in-Some, release-slots-in_default}
 
 pub release-bounds-self-n : goal.release-bounds-self-n
 release-bounds-self-n t c = owed_in c.args.self.now.nodes.now c.args.n c.requires.owed.0 c.requires.owed.1
@@ -84,9 +84,9 @@ release-slots-loop-slot-preserved t c =
       | release-slots-in-Some w ↦
           subst (λ (p : Pool). Left entry (memory_of p) all rest) (sym w.self-is)
           (left_some entry m all rest w.in-Some.child (at entry m all i (Some w.in-Some.child) c.loop-slot.invariant lt w.in-Some.is) (memory_of w.release.new.self) w.release.ensures)
-      | release-slots-in-default w ↦
+      | release-slots-in_default w ↦
           subst (λ (p : Pool). Left entry (memory_of p) all rest) (sym w.self-is)
-          (left_none entry m all rest (at entry m all i None c.loop-slot.invariant lt w.in-default.is))
+          (left_none entry m all rest (at entry m all i None c.loop-slot.invariant lt w.in_default.is))
     ]
 
 pub release-slots-returns : goal.release-slots-returns

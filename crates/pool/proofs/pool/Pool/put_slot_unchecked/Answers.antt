@@ -23,8 +23,8 @@ own-requires c =
       room = code_room m (c.args.parent ∷ (c.args.child ∷ held.0)) held.2 (omega (arith, held.1));
     }
 
-pub returns-in-err-parent : goal.returns-in-err-parent
-returns-in-err-parent c =
+pub returns-in_err-parent : goal.returns-in_err-parent
+returns-in_err-parent c =
     let m : Memory = memory_of c.args.self.now in
     let q : Memory = memory_of c.own.new.self in
     let p = err_from_is_err_and c.from-residual.result c.from-residual.ensures.1 in
@@ -32,7 +32,7 @@ returns-in-err-parent c =
     = ap (λ (r : Result ℕ PoolFault). (r, q)) p.1
     ∙ ap (λ (x : PoolFault). (Err x, q)) p.2
     ∙ sym (code_put_err m c.args.parent c.args.slot c.args.child (omega (arith, c.tallest-height.ensures))
-    c.own.result q c.own.ensures c.in-err-parent.field-0.0 c.in-err-parent.was) in
+    c.own.result q c.own.ensures c.in_err-parent.field-0.0 c.in_err-parent.was) in
     record {
       value = e;
       change = put_change m c.args.parent c.args.slot c.args.child c.requires.inside c.requires.absent c.requires.bare c.from-residual.result q e;
@@ -42,20 +42,20 @@ pub bounds-self-parent-2 : goal.bounds-self-parent-2
 bounds-self-parent-2 c =
     code_put_in (memory_of c.args.self.now) c.args.parent c.args.slot c.args.child c.requires.held.0 c.requires.held.2 c.requires.inside c.requires.absent c.requires.bare
     (omega (arith, c.tallest-height.ensures))
-    c.own.result (memory_of c.own.new.self) c.own.ensures c.in-ok-parent.parent c.in-ok-parent.was
+    c.own.result (memory_of c.own.new.self) c.own.ensures c.in_ok-parent.parent c.in_ok-parent.was
 
 pub bounds-self-parent-3 : goal.bounds-self-parent-3
 bounds-self-parent-3 c =
     code_put_in (memory_of c.args.self.now) c.args.parent c.args.slot c.args.child c.requires.held.0 c.requires.held.2 c.requires.inside c.requires.absent c.requires.bare
     (omega (arith, c.tallest-height.ensures))
-    c.own.result (memory_of c.own.new.self) c.own.ensures c.in-ok-parent.parent c.in-ok-parent.was
+    c.own.result (memory_of c.own.new.self) c.own.ensures c.in_ok-parent.parent c.in_ok-parent.was
 
 pub returns : goal.returns
 returns c =
     let m : Memory = memory_of c.args.self.now in
     let e = code_put m c.args.parent c.args.slot c.args.child c.requires.held.0 c.requires.held.2 c.requires.inside c.requires.absent c.requires.bare
     (omega (arith, c.tallest-height.ensures))
-    c.own.result (memory_of c.own.new.self) c.own.ensures c.in-ok-parent.parent c.in-ok-parent.was
+    c.own.result (memory_of c.own.new.self) c.own.ensures c.in_ok-parent.parent c.in_ok-parent.was
     c.tallest-height.result c.tallest-height.ensures in
     record {
       value = e;

@@ -8,7 +8,7 @@ use Rattle.pool.specs.Seen.{memory_of}
 use Rattle.pool.proofs.Counted.{times_here}
 use Rattle.pool.proofs.Copying.{Retaining, retaining_none, retaining_some}
 use Rattle.pool.proofs.pool.Pool.retain_slots.Goals as goal
-use Rattle.pool.proofs.pool.Pool.retain_slots.Goals.{in-Some, in-default}
+use Rattle.pool.proofs.pool.Pool.retain_slots.Goals.{in-Some, in_default}
 
 -- what is left at an index, by the slot there
 at : (entry m : Memory) (all : List (Option ℕ)) (i : ℕ) (s : Option ℕ) → Retaining entry m all (drop i all) (8 - i) → i < length all → i < 8 → get_or all i None ≡ s → Retaining entry m all (s ∷ drop (i + 1) all) (suc (8 - (i + 1)))
@@ -42,9 +42,9 @@ loop-slot-preserved c =
       | in-Some w ↦
           subst (λ (x : Memory). Retaining entry x all rest (8 - (i + 1))) (sym (ap (λ (p : Pool). memory_of p) w.self-is ∙ w.retain.ensures))
           (retaining_some entry m all rest (8 - (i + 1)) w.in-Some.child (at entry m all i (Some w.in-Some.child) c.loop-slot.invariant (omega arith) (omega arith) w.in-Some.is))
-      | in-default w ↦
+      | in_default w ↦
           subst (λ (x : Memory). Retaining entry x all rest (8 - (i + 1))) (sym (ap (λ (p : Pool). memory_of p) w.self-is))
-          (retaining_none entry m all rest (8 - (i + 1)) (at entry m all i None c.loop-slot.invariant (omega arith) (omega arith) w.in-default.is))
+          (retaining_none entry m all rest (8 - (i + 1)) (at entry m all i None c.loop-slot.invariant (omega arith) (omega arith) w.in_default.is))
     ]
 
 pub returns : goal.returns

@@ -17,15 +17,15 @@ own-requires c =
       room = code_room m (c.args.parent ∷ held.0) held.2 (omega (arith, held.1));
     }
 
-pub returns-in-err-parent : goal.returns-in-err-parent
-returns-in-err-parent c =
+pub returns-in_err-parent : goal.returns-in_err-parent
+returns-in_err-parent c =
     let m : Memory = memory_of c.args.self.now in
     let q : Memory = memory_of c.own.new.self in
     let p = err_from_is_err_and c.from-residual.result c.from-residual.ensures.1 in
     let e : (c.from-residual.result, q) ≡ slot_taken m c.args.parent c.args.slot
     = ap (λ (r : Result (ℕ × ℕ) PoolFault). (r, q)) p.1
     ∙ ap (λ (x : PoolFault). (Err x, q)) p.2
-    ∙ sym (code_taken_err m c.args.parent c.args.slot c.own.result q c.own.ensures c.in-err-parent.field-0.0 c.in-err-parent.was) in
+    ∙ sym (code_taken_err m c.args.parent c.args.slot c.own.result q c.own.ensures c.in_err-parent.field-0.0 c.in_err-parent.was) in
     record {
       value = e;
       change = taken_change m c.args.parent c.args.slot c.requires.present.0 c.requires.inside c.requires.present.1 c.from-residual.result q e;
@@ -34,32 +34,32 @@ returns-in-err-parent c =
 pub bounds-self-parent-2 : goal.bounds-self-parent-2
 bounds-self-parent-2 c =
     code_take_in (memory_of c.args.self.now) c.args.parent c.args.slot c.requires.present.0 c.requires.held.0 c.requires.held.2 c.requires.inside c.requires.present.1
-    c.own.result (memory_of c.own.new.self) c.own.ensures c.in-ok-parent.parent c.in-ok-parent.was
+    c.own.result (memory_of c.own.new.self) c.own.ensures c.in_ok-parent.parent c.in_ok-parent.was
 
 pub tallest-height-requires : goal.tallest-height-requires
 tallest-height-requires c =
     code_take_named (memory_of c.args.self.now) c.args.parent c.args.slot c.requires.present.0 c.requires.held.0 c.requires.held.2 c.requires.inside c.requires.present.1
-    c.own.result (memory_of c.own.new.self) c.own.ensures c.in-ok-parent.parent c.in-ok-parent.was
+    c.own.result (memory_of c.own.new.self) c.own.ensures c.in_ok-parent.parent c.in_ok-parent.was
 
-pub overflow-add-height : goal.overflow-add-height
-overflow-add-height c =
+pub overflow_add-height : goal.overflow_add-height
+overflow_add-height c =
     omega (
       arith,
       c.tallest-height.ensures,
       code_take_low (memory_of c.args.self.now) c.args.parent c.args.slot c.requires.present.0 c.requires.held.0 c.requires.held.2 c.requires.inside c.requires.present.1
-          c.own.result (memory_of c.own.new.self) c.own.ensures c.in-ok-parent.parent c.in-ok-parent.was,
+          c.own.result (memory_of c.own.new.self) c.own.ensures c.in_ok-parent.parent c.in_ok-parent.was,
     )
 
 pub bounds-self-parent-3 : goal.bounds-self-parent-3
 bounds-self-parent-3 c =
     code_take_in (memory_of c.args.self.now) c.args.parent c.args.slot c.requires.present.0 c.requires.held.0 c.requires.held.2 c.requires.inside c.requires.present.1
-    c.own.result (memory_of c.own.new.self) c.own.ensures c.in-ok-parent.parent c.in-ok-parent.was
+    c.own.result (memory_of c.own.new.self) c.own.ensures c.in_ok-parent.parent c.in_ok-parent.was
 
 pub returns : goal.returns
 returns c =
     let m : Memory = memory_of c.args.self.now in
     let e = code_taken m c.args.parent c.args.slot c.requires.present.0 c.requires.held.0 c.requires.held.2 c.requires.inside c.requires.present.1
-    c.own.result (memory_of c.own.new.self) c.own.ensures c.in-ok-parent.parent c.in-ok-parent.was
+    c.own.result (memory_of c.own.new.self) c.own.ensures c.in_ok-parent.parent c.in_ok-parent.was
     c.unwrap-child.result c.tallest-height.result c.unwrap-child.ensures c.tallest-height.ensures in
     record {
       value = e;

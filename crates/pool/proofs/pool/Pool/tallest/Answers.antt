@@ -4,7 +4,7 @@ use Rattle.pool.specs.declared.node.Node.{Node}
 use Rattle.pool.specs.Counts.{tallest}
 use Rattle.pool.proofs.Slotting.{slot_named}
 use Rattle.pool.proofs.pool.Pool.tallest.Goals as goal
-use Rattle.pool.proofs.pool.Pool.tallest.Goals.{in-Some, in-default}
+use Rattle.pool.proofs.pool.Pool.tallest.Goals.{in-Some, in_default}
 
 -- what is left at an index, by the slot there
 at : (ns : List Node) (all : List (Option ℕ)) (i : ℕ) (s : Option ℕ) → i < length all → get_or all i None ≡ s → tallest ns (drop i all) ≡ tallest ns (s ∷ drop (i + 1) all)
@@ -20,7 +20,7 @@ loop-slot-preserved c =
     let i : ℕ = c.loop-slot.slot-index in
     elim c.match-slot.branch [
       | in-Some w ↦ omega (arith, c.loop-slot.invariant, at ns all i (Some w.in-Some.child) (omega arith) w.in-Some.is, w.height_is, w.max-height.ensures)
-      | in-default w ↦ omega (arith, c.loop-slot.invariant, at ns all i None (omega arith) w.in-default.is, w.height_is)
+      | in_default w ↦ omega (arith, c.loop-slot.invariant, at ns all i None (omega arith) w.in_default.is, w.height_is)
     ]
 
 pub returns : goal.returns
