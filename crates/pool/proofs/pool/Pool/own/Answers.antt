@@ -11,8 +11,8 @@ bounds-self-n c = owed_in c.args.self.now.nodes.now c.args.n c.requires.owed.0 c
 pub bounds-self-n-2 : goal.bounds-self-n-2
 bounds-self-n-2 c = owed_in c.args.self.now.nodes.now c.args.n c.requires.owed.0 c.requires.owed.1
 
-pub retain-slots-requires : goal.retain-slots-requires
-retain-slots-requires c =
+pub retain_slots-requires : goal.retain_slots-requires
+retain_slots-requires c =
     let m : Memory = memory_of c.args.self.now in
     let n : ℕ = c.args.n in
     let hs : List ℕ = c.requires.owed.0 in
@@ -32,5 +32,5 @@ bounds-self-copy c =
     let n : ℕ = c.args.n in
     let u = owed_used m.nodes n c.requires.owed.0 c.requires.owed.1 in
     let l : c.in-Some.copy < length m.nodes = c.in-Some.ensures.lowest.0 in
-    let e = ap (λ (x : Memory). length x.nodes) c.retain-slots.ensures in
+    let e = ap (λ (x : Memory). length x.nodes) c.retain_slots.ensures in
     omega (arith, l, e, spread_long m n c.requires.owed.0 c.requires.owed.1 (omega arith))

@@ -27,15 +27,15 @@ pub returns-in_err-parent : goal.returns-in_err-parent
 returns-in_err-parent c =
     let m : Memory = memory_of c.args.self.now in
     let q : Memory = memory_of c.own.new.self in
-    let p = err_from_is_err_and c.from-residual.result c.from-residual.ensures.1 in
-    let e : (c.from-residual.result, q) ≡ slot_put m c.args.parent c.args.slot c.args.child
+    let p = err_from_is_err_and c.from_residual.result c.from_residual.ensures.1 in
+    let e : (c.from_residual.result, q) ≡ slot_put m c.args.parent c.args.slot c.args.child
     = ap (λ (r : Result ℕ PoolFault). (r, q)) p.1
     ∙ ap (λ (x : PoolFault). (Err x, q)) p.2
     ∙ sym (code_put_err m c.args.parent c.args.slot c.args.child (omega (arith, c.tallest-height.ensures))
     c.own.result q c.own.ensures c.in_err-parent.field-0.0 c.in_err-parent.was) in
     record {
       value = e;
-      change = put_change m c.args.parent c.args.slot c.args.child c.requires.inside c.requires.absent c.requires.bare c.from-residual.result q e;
+      change = put_change m c.args.parent c.args.slot c.args.child c.requires.inside c.requires.absent c.requires.bare c.from_residual.result q e;
     }
 
 pub bounds-self-parent-2 : goal.bounds-self-parent-2

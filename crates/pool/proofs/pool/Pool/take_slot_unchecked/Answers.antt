@@ -21,14 +21,14 @@ pub returns-in_err-parent : goal.returns-in_err-parent
 returns-in_err-parent c =
     let m : Memory = memory_of c.args.self.now in
     let q : Memory = memory_of c.own.new.self in
-    let p = err_from_is_err_and c.from-residual.result c.from-residual.ensures.1 in
-    let e : (c.from-residual.result, q) ≡ slot_taken m c.args.parent c.args.slot
+    let p = err_from_is_err_and c.from_residual.result c.from_residual.ensures.1 in
+    let e : (c.from_residual.result, q) ≡ slot_taken m c.args.parent c.args.slot
     = ap (λ (r : Result (ℕ × ℕ) PoolFault). (r, q)) p.1
     ∙ ap (λ (x : PoolFault). (Err x, q)) p.2
     ∙ sym (code_taken_err m c.args.parent c.args.slot c.own.result q c.own.ensures c.in_err-parent.field-0.0 c.in_err-parent.was) in
     record {
       value = e;
-      change = taken_change m c.args.parent c.args.slot c.requires.present.0 c.requires.inside c.requires.present.1 c.from-residual.result q e;
+      change = taken_change m c.args.parent c.args.slot c.requires.present.0 c.requires.inside c.requires.present.1 c.from_residual.result q e;
     }
 
 pub bounds-self-parent-2 : goal.bounds-self-parent-2

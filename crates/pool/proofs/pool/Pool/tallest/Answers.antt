@@ -19,8 +19,8 @@ loop-slot-preserved c =
     let all : List (Option ℕ) = c.args.slots in
     let i : ℕ = c.loop-slot.slot-index in
     elim c.match-slot.branch [
-      | in-Some w ↦ omega (arith, c.loop-slot.invariant, at ns all i (Some w.in-Some.child) (omega arith) w.in-Some.is, w.height_is, w.max-height.ensures)
-      | in_default w ↦ omega (arith, c.loop-slot.invariant, at ns all i None (omega arith) w.in_default.is, w.height_is)
+      | in-Some w ↦ omega (arith, c.loop-slot.invariant, at ns all i (Some w.in-Some.child) (omega arith) w.in-Some.is, w.height-is, w.max-height.ensures)
+      | in_default w ↦ omega (arith, c.loop-slot.invariant, at ns all i None (omega arith) w.in_default.is, w.height-is)
     ]
 
 pub returns : goal.returns
