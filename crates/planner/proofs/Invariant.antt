@@ -69,12 +69,36 @@ ordered_of p =
       cleared = p.cleared;
     }
 
--- what a planner's ghost fields say, in their order
+-- what a planner's ghost fields say, by name
 abbrev pub Ghosts : Memory → List (Option ℕ) → Type 0
-Ghosts m rs =
-    (length rs ≡ 32) × ((length m.nodes ≡ 256) × ((length m.words ≡ 8192) × (Counts m.nodes (names rs) × (Heights m.nodes × (Low m.nodes × (Eight m.nodes
-    × (Within m.nodes m.words × (Disjoint m.nodes × (Slotless m.nodes × (Vacant m.nodes × (Cleared m.nodes m.words × Unit {0})))))))))))
+Ghosts m rs = record {
+  roots_long : length rs ≡ 32;
+  nodes_long : length m.nodes ≡ 256;
+  words_long : length m.words ≡ 8192;
+  counts : Counts m.nodes (names rs);
+  heights : Heights m.nodes;
+  low : Low m.nodes;
+  eight : Eight m.nodes;
+  within : Within m.nodes m.words;
+  apart : Disjoint m.nodes;
+  slotless : Slotless m.nodes;
+  freed : Vacant m.nodes;
+  cleared : Cleared m.nodes m.words;
+}
 
 pub ghosts_of : (m : Memory) (rs : List (Option ℕ)) → length rs ≡ 32 → Ordered m (names rs) → Ghosts m rs
 ghosts_of m rs long o =
-    (long, (o.nodes_long, (o.words_long, (o.counts, (o.heights, (o.low, (o.eight, (o.within, (disjoint_of m.nodes o.apart, (o.slotless, (vacant_of m.nodes o.freed, (o.cleared, tt))))))))))))
+    record {
+      roots_long = long;
+      nodes_long = o.nodes_long;
+      words_long = o.words_long;
+      counts = o.counts;
+      heights = o.heights;
+      low = o.low;
+      eight = o.eight;
+      within = o.within;
+      apart = disjoint_of m.nodes o.apart;
+      slotless = o.slotless;
+      freed = vacant_of m.nodes o.freed;
+      cleared = o.cleared;
+    }

@@ -18,10 +18,10 @@ returns g c =
     let d = c.read-result.ensures.does in
     record {
       state = refl;
-      digits = subst (λ (a : Said). Wrote c.write-answer.result c.args.out.now c.write-answer.new.out (written ks a)) (c.read-answer.ensures ∙ answer_is ks es s (read c.args.root) _ s d) c.write-answer.ensures.digits;
+      digits = subst (λ (a : Said). Wrote c.write_answer.result c.args.out.now c.write_answer.new.out (written ks a)) (c.read_answer.ensures ∙ answer_is ks es s (read c.args.root) _ s d) c.write_answer.ensures.digits;
       law = goes_on ks es s (read c.args.root) _ s d;
-      capacity = c.write-answer.ensures.capacity;
-      room = λ h r l. c.write-answer.ensures.room (subst (λ (a : Said). Short a) (sym c.read-answer.ensures) (reading_short ks es s c.args.root _ d h r)) l;
+      capacity = c.write_answer.ensures.capacity;
+      room = λ h r l. c.write_answer.ensures.room (subst (λ (a : Said). Short a) (sym c.read_answer.ensures) (reading_short ks es s c.args.root _ d h r)) l;
       kinds = refl;
       encodings = refl;
     }

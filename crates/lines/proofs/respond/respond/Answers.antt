@@ -19,11 +19,11 @@ returns-in-None g c =
     let e : None ≡ parses.asked ks c.args.line.now = c.in-None.ensures in
     record {
       state = ap (λ (o : Option Told). (responded ks s o).1) e;
-      digits = subst (λ (o : Option Told). Wrote c.write-answer.result c.args.out.now c.write-answer.new.out (written ks (responded ks s o).0)) e
-          (subst (λ (a : Said). Wrote c.write-answer.result c.args.out.now c.write-answer.new.out (written ks a)) c.answer.ensures c.write-answer.ensures.digits);
+      digits = subst (λ (o : Option Told). Wrote c.write_answer.result c.args.out.now c.write_answer.new.out (written ks (responded ks s o).0)) e
+          (subst (λ (a : Said). Wrote c.write_answer.result c.args.out.now c.write_answer.new.out (written ks a)) c.answer.ensures c.write_answer.ensures.digits);
       law = λ h r. subst (λ (o : Option Told). GoesOn ks es h s o s) e (r, (history_law ks (g.met.K.RowKinds.lawful _) es (g.E.Encoding.lawful _ ks) h r.answered).1);
-      capacity = c.write-answer.ensures.capacity;
-      room = λ h r l. c.write-answer.ensures.room (subst (λ (a : Said). Short a) (sym c.answer.ensures) tt) l;
+      capacity = c.write_answer.ensures.capacity;
+      room = λ h r l. c.write_answer.ensures.room (subst (λ (a : Said). Short a) (sym c.answer.ensures) tt) l;
       kinds = refl;
       encodings = refl;
     }

@@ -12,13 +12,13 @@ loop-i-init c = after_none (decoded c.args.line.now)
 pub returns-in_err-high : goal.returns-in_err-high
 returns-in_err-high c =
     let h = c.in_err-high.ensures.value in
-    rw c.from-residual.ensures (record { bytes = decode_high c.loop-i.line c.args.line.now c.loop-i.i (omega arith) (sym h) c.loop-i.invariant; half = tt })
+    rw c.from_residual.ensures (record { bytes = decode_high c.loop-i.line c.args.line.now c.loop-i.i (omega arith) (sym h) c.loop-i.invariant; half = tt })
 
 pub returns-in_err-low : goal.returns-in_err-low
 returns-in_err-low c =
     let h = c.in_ok-high.ensures.value in
     let l = c.in_err-low.ensures.value in
-    rw c.from-residual-in-err-low.ensures (record { bytes = decode_low c.loop-i.line c.args.line.now c.loop-i.i c.in_ok-high.high (omega arith) (sym h) (sym l) c.loop-i.invariant; half = tt })
+    rw c.from_residual-in_err-low.ensures (record { bytes = decode_low c.loop-i.line c.args.line.now c.loop-i.i c.in_ok-high.high (omega arith) (sym h) (sym l) c.loop-i.invariant; half = tt })
 
 pub loop-i-preserved : goal.loop-i-preserved
 loop-i-preserved c =

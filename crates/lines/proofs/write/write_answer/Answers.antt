@@ -10,9 +10,9 @@ returns-in-Rows g c =
     let ks = g.K.RowKinds.kinds c.args.kinds.now in
     let law = g.met.K.RowKinds.lawful c.args.kinds.now in
     let a = said c.args.answer in
-    let wrote : Wrote c.write-reading.result c.args.out.now c.write-reading.new.out (written ks a) = search rules in
+    let wrote : Wrote c.write_reading.result c.args.out.now c.write_reading.new.out (written ks a) = search rules in
     record {
       digits = wrote;
       capacity = omega arith;
-      room = λ short enough. wrote_ok c.write-reading.result c.args.out.now c.write-reading.new.out (written ks a) wrote (omega (arith, written_short ks law a short, enough));
+      room = λ short enough. wrote_ok c.write_reading.result c.args.out.now c.write_reading.new.out (written ks a) wrote (omega (arith, written_short ks law a short, enough));
     }

@@ -5,14 +5,14 @@ use Rattle.lines.specs.Text.{spelled}
 use Rattle.lines.proofs.Spelling.{spelled_more, no_room}
 use Rattle.lines.proofs.write.write_row.Goals as goal
 
-pub returns-in_err-push-byte : goal.returns-in_err-push-byte
-returns-in_err-push-byte g c =
+pub returns-in_err-push_byte : goal.returns-in_err-push_byte
+returns-in_err-push_byte g c =
     let kd = (g.K.RowKinds.kinds c.args.kinds.now).kind c.args.kind in
     let bs = kd.written c.args.row in
     let long : length bs ≡ kd.width = ((g.met.K.RowKinds.lawful c.args.kinds.now).lawful c.args.kind).written_long c.args.row in
     let j = c.loop-j.j in
-    let p = err_from_is_err_and c.from-residual.result c.from-residual.ensures.1 in
-    let room = no_room c.args.out.now c.loop-j.out (take j bs) (c.byte.result ∷ []) bs c.loop-j.invariant.0 c.loop-j.invariant.1 c.in_err-push-byte.ensures.items (omega (arith, length-take j bs, c.width-j-end.ensures)) in
+    let p = err_from_is_err_and c.from_residual.result c.from_residual.ensures.1 in
+    let room = no_room c.args.out.now c.loop-j.out (take j bs) (c.byte.result ∷ []) bs c.loop-j.invariant.0 c.loop-j.invariant.1 c.in_err-push_byte.ensures.items (omega (arith, length-take j bs, c.width-j-end.ensures)) in
     record { items = rw p.1 room; capacity = omega arith }
 
 pub loop-j-preserved : goal.loop-j-preserved
@@ -21,7 +21,7 @@ loop-j-preserved g c =
     let bs = kd.written c.args.row in
     let long : length bs ≡ kd.width = ((g.met.K.RowKinds.lawful c.args.kinds.now).lawful c.args.kind).written_long c.args.row in
     let j = c.loop-j.j in
-    (spelled_more (vec_items c.args.out.now) (vec_items c.loop-j.out) _ bs j c.byte.result (omega (arith, c.width-j-end.ensures)) c.byte.ensures c.loop-j.invariant.0 c.in_ok-push-byte.ensures.items, omega arith)
+    (spelled_more (vec_items c.args.out.now) (vec_items c.loop-j.out) _ bs j c.byte.result (omega (arith, c.width-j-end.ensures)) c.byte.ensures c.loop-j.invariant.0 c.in_ok-push_byte.ensures.items, omega arith)
 
 pub returns : goal.returns
 returns g c =

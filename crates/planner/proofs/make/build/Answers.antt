@@ -24,10 +24,10 @@ append-requires g c =
     let ks : Kinds = g.K.RowKinds.kinds c.args.kinds.now in
     let kd : Kind = ks.kind c.args.kind in
     let law : LawfulKind kd = (g.met.K.RowKinds.lawful c.args.kinds.now).lawful c.args.kind in
-    let q : Memory = memory_of c.open-builder.new.self in
+    let q : Memory = memory_of c.open_builder.new.self in
     let i : ℕ = c.in_ok-node.node in
     let e : (Ok i, q) ≡ opened (memory_of c.args.pool.now) c.args.kind c.args.len (kd.words c.args.len)
-    = ap (λ (r : Result ℕ PoolFault). (r, q)) (sym c.in_ok-node.was) ∙ c.open-builder.ensures in
+    = ap (λ (r : Result ℕ PoolFault). (r, q)) (sym c.in_ok-node.was) ∙ c.open_builder.ensures in
     let rs : List Row = rows_parsed kd c.args.len c.args.rows.now in
     let o = open_at ks (memory_of c.args.pool.now) q c.args.kind c.args.len (kd.words c.args.len) i law
     (opened_ok (memory_of c.args.pool.now) c.args.kind c.args.len (kd.words c.args.len) i q e)
@@ -42,7 +42,7 @@ loop-k-preserved g c =
     let ks : Kinds = g.K.RowKinds.kinds c.args.kinds.now in
     let kd : Kind = ks.kind c.args.kind in
     let law : LawfulKind kd = (g.met.K.RowKinds.lawful c.args.kinds.now).lawful c.args.kind in
-    let q : Memory = memory_of c.open-builder.new.self in
+    let q : Memory = memory_of c.open_builder.new.self in
     let i : ℕ = c.in_ok-node.node in
     let k : ℕ = c.loop-k.k in
     let rs : List Row = rows_parsed kd c.args.len c.args.rows.now in
@@ -75,10 +75,10 @@ finish-requires g c =
     let ks : Kinds = g.K.RowKinds.kinds c.args.kinds.now in
     let kd : Kind = ks.kind c.args.kind in
     let law : LawfulKind kd = (g.met.K.RowKinds.lawful c.args.kinds.now).lawful c.args.kind in
-    let q : Memory = memory_of c.open-builder.new.self in
+    let q : Memory = memory_of c.open_builder.new.self in
     let i : ℕ = c.in_ok-node.node in
     let e : (Ok i, q) ≡ opened (memory_of c.args.pool.now) c.args.kind c.args.len (kd.words c.args.len)
-    = ap (λ (r : Result ℕ PoolFault). (r, q)) (sym c.in_ok-node.was) ∙ c.open-builder.ensures in
+    = ap (λ (r : Result ℕ PoolFault). (r, q)) (sym c.in_ok-node.was) ∙ c.open_builder.ensures in
     let h = builder_inside ks (memory_of c.args.pool.now) q c.args.kind c.args.len (kd.words c.args.len) i law
     (opened_ok (memory_of c.args.pool.now) c.args.kind c.args.len (kd.words c.args.len) i q e)
     (take c.loop-k.k (rows_parsed kd c.args.len c.args.rows.now)) in
@@ -89,10 +89,10 @@ returns g c =
     let ks : Kinds = g.K.RowKinds.kinds c.args.kinds.now in
     let kd : Kind = ks.kind c.args.kind in
     let law : LawfulKind kd = (g.met.K.RowKinds.lawful c.args.kinds.now).lawful c.args.kind in
-    let q : Memory = memory_of c.open-builder.new.self in
+    let q : Memory = memory_of c.open_builder.new.self in
     let i : ℕ = c.in_ok-node.node in
     let e : (Ok i, q) ≡ opened (memory_of c.args.pool.now) c.args.kind c.args.len (kd.words c.args.len)
-    = ap (λ (r : Result ℕ PoolFault). (r, q)) (sym c.in_ok-node.was) ∙ c.open-builder.ensures in
+    = ap (λ (r : Result ℕ PoolFault). (r, q)) (sym c.in_ok-node.was) ∙ c.open_builder.ensures in
     let rs : List Row = rows_parsed kd c.args.len c.args.rows.now in
     let long : length rs ≡ c.args.len = parsed_long kd law c.args.len c.args.rows.now c.requires.parse in
     let all : take c.loop-k.k rs ≡ rs = take_all c.loop-k.k rs (omega arith) in

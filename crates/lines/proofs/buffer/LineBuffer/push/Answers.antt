@@ -7,7 +7,7 @@ returns-then-len-self c =
     let xs = vec_items c.args.self.now.bytes in
     let n = c.args.self.now.limit in
     let x = c.args.byte in
-    let e = c.push-reserved.ensures.items ∙ kept xs x n (omega (arith, c.args.self.now.bytes.ok.0)) in
+    let e = c.push_reserved.ensures.items ∙ kept xs x n (omega (arith, c.args.self.now.bytes.ok.0)) in
     record { held = e; limit = refl; all = λ whole h. e ∙ cut_again xs whole x n h }
 
 pub returns-else-len-self : goal.returns-else-len-self

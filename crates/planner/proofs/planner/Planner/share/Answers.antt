@@ -39,13 +39,13 @@ returns-in_default g c =
       encodings = refl;
     }
 
-pub returns-then-is-some : goal.returns-then-is-some
-returns-then-is-some g c =
+pub returns-then-is_some : goal.returns-then-is_some
+returns-then-is_some g c =
     let s : State = state_of c.args.self.now in
     let k : ℕ = c.in-Some.node in
     record {
       does = does _ _ (g.met.K.RowKinds.lawful _) (g.E.Encoding.lawful _ _) s s _ _
-          (taken_by (refused RootTaken, s) (done, with_root s (sharing.retained s.memory k) c.args.to (Some k)) c.root-2.result (sym c.if-is-some.ensures)
+          (taken_by (refused RootTaken, s) (done, with_root s (sharing.retained s.memory k) c.args.to (Some k)) c.root-2.result (sym c.if-is_some.ensures)
           ∙ shared_is s c.args.to c.args.from true (Some k) c.root-2.result (in_range c.args.to c.args.from c.if-to-ge-ROOTS.false c.if-from-ge-ROOTS.false) c.in-Some.ensures c.root-2.ensures);
       kinds = refl;
       encodings = refl;
@@ -65,12 +65,12 @@ invariant_of-self g c =
     let p = c.args.self.now in
     let long : length c.args.self.now.roots ≡ 32 = c.args.self.now.roots_long in
     subst (λ (m : Memory). Ghosts m (set c.args.self.now.roots c.args.to (Some c.in-Some.node))) (sym c.retain.ensures)
-    (ghosts_of _ (set c.args.self.now.roots c.args.to (Some c.in-Some.node)) (length-set c.args.self.now.roots c.args.to (Some c.in-Some.node) ∙ long) (shared_ordered (state_of c.args.self.now).memory c.args.self.now.roots (ordered_of c.args.self.now) c.args.to c.args.from c.in-Some.node (omega arith) c.in-Some.ensures (c.root-2.ensures ∙ empty_by c.root-2.result (sym c.if-is-some.ensures))))
+    (ghosts_of _ (set c.args.self.now.roots c.args.to (Some c.in-Some.node)) (length-set c.args.self.now.roots c.args.to (Some c.in-Some.node) ∙ long) (shared_ordered (state_of c.args.self.now).memory c.args.self.now.roots (ordered_of c.args.self.now) c.args.to c.args.from c.in-Some.node (omega arith) c.in-Some.ensures (c.root-2.ensures ∙ empty_by c.root-2.result (sym c.if-is_some.ensures))))
 
 pub returns : goal.returns
 returns g c =
     let s : State = state_of c.args.self.now in
-    let e = shared_is s c.args.to c.args.from true (Some c.in-Some.node) None (in_range c.args.to c.args.from c.if-to-ge-ROOTS.false c.if-from-ge-ROOTS.false) c.in-Some.ensures (c.root-2.ensures ∙ empty_by c.root-2.result (sym c.if-is-some.ensures)) in
+    let e = shared_is s c.args.to c.args.from true (Some c.in-Some.node) None (in_range c.args.to c.args.from c.if-to-ge-ROOTS.false c.if-from-ge-ROOTS.false) c.in-Some.ensures (c.root-2.ensures ∙ empty_by c.root-2.result (sym c.if-is_some.ensures)) in
     record {
       does = does _ _ (g.met.K.RowKinds.lawful _) (g.E.Encoding.lawful _ _) s _ _ _ (ap (λ (m : Memory). (done, with_root s m c.args.to (Some c.in-Some.node))) c.retain.ensures ∙ e);
       kinds = refl;
