@@ -11,4 +11,4 @@ same v n p q s t =
     ∙ ap (λ (x : vec_len v ≤ n). record { bytes = v; limit = n; room = q; short = x }) (le_prop s t)
 
 pub returns : goal.returns
-returns c = ((refl, λ w. same (with_items c.args.self.now.bytes w) c.args.self.now.limit _ _ _ _), c.as_mut_slice.ensures.value)
+returns c = ((refl, λ w. same (with_items c.args.self.now.bytes w) c.args.self.now.limit _ _ _ _), record { value = c.as_mut_slice.ensures.value; follows = tt })
