@@ -1,5 +1,5 @@
 -- A Flat array that is built: opened, appended to, and finished.
-use Rattle.std.proofs.Common.{◌≡◌, ℕ, suc, ◌+◌, ◌-◌, ◌<◌, ◌≤◌, true, List, [], ◌∷◌, length, get_or, drop, set, replicate, Some, None, Ok, Err, Option, Result, sym, refl, ap, ◌∙◌, subst, arith}
+use Rattle.std.proofs.Common.{◌≡◌, ℕ, suc, ◌+◌, ◌<◌, ◌≤◌, true, List, [], ◌∷◌, length, get_or, drop, set, replicate, Some, None, Ok, Err, Option, Result, sym, refl, ap, ◌∙◌, subst, arith}
 use Rattle.std.proofs.lemmas.List.{length-set, length-take-le, length-drop, length-replicate, get_or-set_same, get_or-take, get_or-drop, get_or-replicate, set-set, ext_get_or}
 use Rattle.rows.specs.declared.row.Row.{Row}
 use Rattle.rows.specs.Kind.{Kind, Kinds, LawfulKind, Taken, rows, appended}
@@ -10,7 +10,7 @@ use Rattle.pool.specs.declared.node.PoolFault.TheVariants.{Height, Nodes, Words}
 use Rattle.pool.specs.Memory.{Memory, blank, no_slots, node_at, countAt, start_at, run_at, with_encoding, put_node, with_words, part, overwritten, run_of, with_run}
 use Rattle.pool.specs.Order.{Ordered, Change}
 use Rattle.pool.specs.Finding.{lowest_free, find_run, Room, Lowest, LowestNode}
-use Rattle.pool.specs.Building.{open_node, opened, append_rows, finished, built}
+use Rattle.pool.specs.Building.{open_node, append_rows, finished, built}
 use Rattle.pool.proofs.Found.{lowest_free_is, find_run_is, found_room}
 use Rattle.pool.proofs.Placing.{placed, placed_change, over_long, over_part, over_over, over_same}
 

@@ -1,5 +1,5 @@
 -- The two kinds of every set: number is kind 1 and mark is kind 2; and a set with one kind more.
-use Rattle.std.specs.Prelude.{◌≡◌, ℕ, ◌+◌, ◌-◌, ◌*◌, ◌/◌, ◌%◌, ◌^◌, ◌≤◌, max, true, false, ◌||◌, ltb, List, [], ◌∷◌, length, set, Some, None, ◌==◌, nat_lt, slice_index, slice_set}
+use Rattle.std.specs.Prelude.{◌≡◌, ℕ, ◌+◌, ◌-◌, ◌*◌, ◌/◌, ◌%◌, ◌^◌, ◌≤◌, max, true, false, ◌||◌, ltb, List, [], ◌∷◌, length, Some, None, ◌==◌, nat_lt, slice_index, slice_set}
 use Rattle.rows.specs.Kind.{Kind, Kinds, LawfulKind}
 
 -- four bytes, the high one first

@@ -1,4 +1,4 @@
-use Rattle.std.proofs.Common.{◌≡◌, ℕ, ◌+◌, ◌-◌, ◌*◌, ◌≤◌, length, take, drop, Some, None, sym, ap, ◌∙◌, arith}
+use Rattle.std.proofs.Common.{◌≡◌, ℕ, ◌+◌, ◌*◌, ◌≤◌, length, take, drop, Some, None, sym, ap, ◌∙◌, arith}
 use Rattle.rows.specs.Kind.{Kind}
 use Rattle.planner.proofs.Parsing.{parse_stops, parse_goes, row_within, row_bytes}
 use Rattle.planner.proofs.make.all_parse.Goals as goal

@@ -1,4 +1,4 @@
-use Rattle.std.proofs.Common.{◌≡◌, ◌-◌, take}
+use Rattle.std.proofs.Common.{◌≡◌, take}
 use Rattle.pool.specs.Building.{append_rows}
 use Rattle.pool.specs.Seen.{memory_of}
 use Rattle.planner.specs.Contract.{rows_parsed}

@@ -10,7 +10,7 @@ use Rattle.pool.specs.Building.{built}
 use Rattle.pool.specs.Seen.{memory_of}
 use Rattle.planner.specs.declared.call.Refusal.TheVariants.{RootTaken}
 use Rattle.planner.specs.Calls.{Said, refused}
-use Rattle.planner.specs.Called.{State, root_at, sized, rows_made, placed}
+use Rattle.planner.specs.Called.{State, root_at, rows_made, placed}
 use Rattle.planner.specs.Contract.{outcome, rows_parsed}
 use Rattle.planner.specs.Seen.{state_of}
 use Rattle.planner.proofs.Invariant.{Ghosts, ghosts_of, ordered_of}

@@ -2,7 +2,6 @@ use Rattle.std.proofs.Common.{◌≡◌, suc, true, false, length, set, Some, No
 use Rattle.std.proofs.lemmas.List.{length-set}
 use Rattle.std.proofs.lemmas.Bool.{lt-ltb, le-ltb}
 use Rattle.pool.specs.Memory.{Memory, heightAt}
-use Rattle.pool.specs.Sharing as sharing
 use Rattle.planner.specs.Calls.{done}
 use Rattle.planner.specs.Called.{State, root_at, with_root}
 use Rattle.planner.specs.Seen.{state_of}
