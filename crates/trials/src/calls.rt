@@ -108,9 +108,9 @@ fn a_line_is_cut_at_its_limit(rt: HostRuntime) -> Result<(), Fail> {
     for byte in b"040500" {
         line.push(*byte);
     }
-    assert!(rt; &*line.line() == b"0405");
+    assert!(rt; &*line.line() == b"0405".as_slice());
     line.clear();
     line.push(b'0');
-    assert!(rt; &*line.line() == b"0");
+    assert!(rt; &*line.line() == b"0".as_slice());
     Ok(())
 }
