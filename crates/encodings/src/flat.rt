@@ -1,6 +1,5 @@
-ghost use Rattle.std.specs.Prelude.{◌==◌};
-ghost use Rattle.encodings.specs.Flat.{flat_encodings};
-ghost use Rattle.std.proofs.Common.{rules};
+ghost use Rattle.std.specs.Prelude.{◌==◌, refl};
+ghost use Rattle.encodings.specs.Flat.{flat_encodings, flat_lawful};
 
 use crate::encoding::Encoding;
 use crate::matcher::{Head, Matcher};
@@ -21,7 +20,7 @@ impl Matcher for Flat {
 impl Encoding for Flat {
     ghost means = { λ _ ks. flat_encodings ks };
 
-    ghost lawful = { Prim.search rules };
+    ghost lawful = { λ _ ks. flat_lawful ks };
 
-    ghost own = { Prim.search rules };
+    ghost own = { λ _ ks head. refl };
 }
