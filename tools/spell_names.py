@@ -1,7 +1,7 @@
 #!/usr/bin/env python3
 """Brings this repository's own definitions, lemmas, fields and local names to today's spelling of Rattle.
 
-usage: python3 tools/spell_names.py [--list]     at the top of the repository, once, right after port.py
+usage: python3 tools/spell_names.py [--list]     at the top of the repository, after port.py; a second run changes nothing
 
 Types are in upper camel case, everything else is in snake case. A name counts as ours where a file of specs/ or
 proofs/ defines or binds it. Names that the library has, that Rattle makes for a goal or a step of the code, and all
@@ -57,10 +57,17 @@ def ours_of():
     return ours, outside, made
 
 
+# Definitions with the capital of a type that are none.
+NO_TYPES = {"Tidy": "tidy_by"}
+
+
 def spelled(name):
+    if name in NO_TYPES:
+        return NO_TYPES[name]
     if name[0].isupper():
         return "".join(part[:1].upper() + part[1:] for part in name.split("-")).replace("\u2032", "'")
-    return name.replace("-", "_").replace("\u2032", "'")
+    snake = re.sub(r"(?<=[a-z0-9])[A-Z]", lambda m: "_" + m.group(0).lower(), name)
+    return snake.replace("-", "_").replace("\u2032", "'")
 
 
 def main():
@@ -82,7 +89,7 @@ def main():
     for p in files() + sources():
         text = open(p, encoding="utf-8").read()
         ghost = p.endswith(".rt")
-        new = TOKEN.sub(lambda m: turn.get(m.group(0), m.group(0)) if "-" in m.group(0) or "\u2032" in m.group(0) else m.group(0), text)
+        new = TOKEN.sub(lambda m: turn.get(m.group(0), m.group(0)), text)
         if ghost:
             lines = [a if "//" in b and "-" in b.split("//", 1)[1] and not b.split("//", 1)[0].strip() else b for a, b in zip(text.split("\n"), new.split("\n"))]
             new = "\n".join(a if a.lstrip().startswith("//") else b for a, b in zip(text.split("\n"), lines))

@@ -4,7 +4,7 @@ use Rattle.std.proofs.lemmas.Bool.{eq-eqb, cond-true}
 use Rattle.rows.specs.declared.row.Row.{Row}
 use Rattle.rows.specs.Kind.{Kinds, rows}
 use Rattle.pool.specs.declared.node.Node.{Node}
-use Rattle.pool.specs.Memory.{Memory, node_at, countAt, heightAt, slotsAt, with_count, run_of}
+use Rattle.pool.specs.Memory.{Memory, node_at, count_at, height_at, slots_at, with_count, run_of}
 use Rattle.pool.specs.Counts.{names, times, Reaches, here, step}
 use Rattle.pool.specs.Order.{SameAt}
 use Rattle.encodings.specs.Meaning.{Shape, Encodings}
@@ -49,7 +49,7 @@ shown ks es nd run cs =
 module _ (ks : Kinds) (es : Encodings) (m q : Memory) where
   -- what the slots of k name is as it was, too
   child_kept : (k c : ℕ) → Kept m q k → 0 < times c (names (slots_of (node_at m k))) → Kept m q c
-  child_kept k c kept h j r = kept j (reaches_on (step here c (omega (arith, times_take c (node_at m k).arity (slotsAt m.nodes k)))) r)
+  child_kept k c kept h j r = kept j (reaches_on (step here c (omega (arith, times_take c (node_at m k).arity (slots_at m.nodes k)))) r)
 
   rows_at_kept : (f k : ℕ) → Kept m q k → rows_at ks es f q k ≡ rows_at ks es f m k
   rows_at_kept zero k kept = refl
@@ -67,14 +67,14 @@ module _ (ks : Kinds) (es : Encodings) (m q : Memory) where
   unfolding rows_of
   rows_kept k kept =
       ap (λ (x : Node). rows_at ks es (suc x.height) q k) (kept k here).same_node
-      ∙ rows_at_kept (suc (heightAt m.nodes k)) k kept
+      ∙ rows_at_kept (suc (height_at m.nodes k)) k kept
 
   pub whole_kept : (k : ℕ) → Kept m q k → WholeAt ks es m k → WholeAt ks es q k
   whole_kept k kept w =
       let nd : Node = node_at m k in
       let same = kept k here in
-      let to : node_at q k ≡ with_count nd (countAt q.nodes k) = same.same_node in
-      let from : with_count nd (countAt q.nodes k) ≡ node_at q k = sym to in
+      let to : node_at q k ≡ with_count nd (count_at q.nodes k) = same.same_node in
+      let from : with_count nd (count_at q.nodes k) ≡ node_at q k = sym to in
       let shapes : shapes_of m (slots_of nd) ≡ shapes_of q (slots_of nd)
       = gathered_same (λ c. Some (shape_of (node_at m c))) (λ c. Some (shape_of (node_at q c))) (slots_of nd)
       (λ c h. sym (ap (λ (x : Node). Some (shape_of x)) (child_kept k c kept h c here).same_node)) in

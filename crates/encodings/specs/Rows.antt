@@ -3,7 +3,7 @@ use Rattle.std.specs.Prelude.{◌≡◌, ℕ, zero, suc, true, false, List, [], 
 use Rattle.rows.specs.declared.row.Row.{Row}
 use Rattle.rows.specs.Kind.{Kinds, rows}
 use Rattle.pool.specs.declared.node.Node.{Node}
-use Rattle.pool.specs.Memory.{Memory, node_at, heightAt, slotsAt, run_at, run_of}
+use Rattle.pool.specs.Memory.{Memory, node_at, height_at, slots_at, run_at, run_of}
 use Rattle.pool.specs.Counts.{names}
 use Rattle.encodings.specs.Meaning.{Fields, Shape, Encodings}
 
@@ -34,7 +34,7 @@ rows_at ks es (suc f) m k =
 
 -- the rows of the array at k, if it has any
 unfoldable pub rows_of : Kinds → Encodings → Memory → ℕ → Option (List Row)
-rows_of ks es m k = rows_at ks es (suc (heightAt m.nodes k)) m k
+rows_of ks es m k = rows_at ks es (suc (height_at m.nodes k)) m k
 
 abbrev pub shapes_of : Memory → List (Option ℕ) → Option (List Shape)
 shapes_of m ss = gathered (λ c. Some (shape_of (node_at m c))) ss
@@ -49,6 +49,6 @@ pub record WholeAt (ks : Kinds) (es : Encodings) (m : Memory) (k : ℕ) : Type 0
   pub known : es.has (node_at m k).encoding ≡ true
   pub fields_fit : es.fields_fit (fields_of (node_at m k)) ≡ true
   pub slots_fit : SlotsFit es (fields_of (node_at m k)) (shapes_of m (slots_of (node_at m k)))
-  pub no_more : names (drop (node_at m k).arity (slotsAt m.nodes k)) ≡ []
+  pub no_more : names (drop (node_at m k).arity (slots_at m.nodes k)) ≡ []
   pub flat_run : (node_at m k).encoding ≡ 1 → run_at m.nodes k ≡ (ks.kind (node_at m k).kind).words (node_at m k).len
   pub flat_tidy : (node_at m k).encoding ≡ 1 → (ks.kind (node_at m k).kind).tidy (node_at m k).len (run_of m k) ≡ true

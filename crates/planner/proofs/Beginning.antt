@@ -4,7 +4,7 @@ use Rattle.std.proofs.lemmas.List.{get_or-replicate, get_or_past, length-replica
 use Rattle.std.proofs.lemmas.Bool.{cases_lt}
 use Rattle.rows.specs.Kind.{Kinds}
 use Rattle.pool.specs.declared.node.Node.{Node}
-use Rattle.pool.specs.Memory.{blank, free_node, empty_memory, countAt, start_at, run_at}
+use Rattle.pool.specs.Memory.{blank, free_node, empty_memory, count_at, start_at, run_at}
 use Rattle.pool.specs.Counts.{names, named}
 use Rattle.pool.specs.Order.{Ordered}
 use Rattle.encodings.specs.Meaning.{Encodings}
@@ -33,7 +33,7 @@ free_at n k =
 zero_at : (f : Node → ℕ) → f free_node ≡ 0 → f blank ≡ 0 → (k : ℕ) → f (get_or empty_memory.nodes k blank) ≡ 0
 zero_at f a b k = ⊎_elim (λ e. ap f e ∙ a) (λ e. ap f e ∙ b) (free_at 256 k)
 
-no_count : (k : ℕ) → countAt empty_memory.nodes k ≡ 0
+no_count : (k : ℕ) → count_at empty_memory.nodes k ≡ 0
 no_count k = zero_at (λ nd. nd.count) refl refl k
 
 no_run : (k : ℕ) → run_at empty_memory.nodes k ≡ 0

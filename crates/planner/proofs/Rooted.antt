@@ -1,6 +1,6 @@
 -- What a change of one root leaves in order.
 use Rattle.std.proofs.Common.{◌≡◌, ℕ, ◌<◌, ◌≤◌, List, [], ◌∷◌, length, get_or, set, Some, None, Option, arith}
-use Rattle.pool.specs.Memory.{Memory, countAt}
+use Rattle.pool.specs.Memory.{Memory, count_at}
 use Rattle.pool.specs.Counts.{names, Falling, Owed, here}
 use Rattle.pool.specs.Order.{Ordered}
 use Rattle.pool.specs.Sharing.{retained, release}
@@ -16,11 +16,11 @@ names_long (Some c ∷ ss) = omega (arith, names_long ss)
 
 module _ (m : Memory) (rs : List (Option ℕ)) (o : Ordered m (names rs)) where
   -- what a root holds is in use
-  pub root_used : (r k : ℕ) → get_or rs r None ≡ Some k → 0 < countAt m.nodes k
+  pub root_used : (r k : ℕ) → get_or rs r None ≡ Some k → 0 < count_at m.nodes k
   root_used r k e = held_used m.nodes (names rs) k o.counts (k, names_at k rs r e, here)
 
   -- the pool has room for one holder more
-  pub root_room : length rs ≤ 32 → (k : ℕ) → countAt m.nodes k < 65535
+  pub root_room : length rs ≤ 32 → (k : ℕ) → count_at m.nodes k < 65535
   root_room l k = omega (arith, count_bound m (names rs) o k, names_long rs)
 
   -- an empty root takes what the pool holds for it

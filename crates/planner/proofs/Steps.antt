@@ -8,7 +8,7 @@ use Rattle.rows.specs.Kind.{Kinds}
 use Rattle.rows.specs.Ours.{LawfulKinds}
 use Rattle.pool.specs.declared.node.Node.{Node}
 use Rattle.pool.specs.declared.node.PoolFault.{PoolFault}
-use Rattle.pool.specs.Memory.{Memory, no_slots, node_at, countAt, slotsAt, start_at, run_at, run_of}
+use Rattle.pool.specs.Memory.{Memory, no_slots, node_at, count_at, slots_at, start_at, run_at, run_of}
 use Rattle.pool.specs.Counts.{names, times, Reaches, here, step, Held}
 use Rattle.pool.specs.Order.{Ordered, Keeps}
 use Rattle.pool.specs.Sharing as sharing
@@ -36,7 +36,7 @@ use Rattle.planner.proofs.Parsing.{rows_parsed}
 pub record Good (ks : Kinds) (es : Encodings) (s : State) : Type 0 where
   pub roots_long : length s.roots ≡ 32
   pub ordered : Ordered s.memory (names s.roots)
-  pub whole : (k : ℕ) → 0 < countAt s.memory.nodes k → WholeAt ks es s.memory k
+  pub whole : (k : ℕ) → 0 < count_at s.memory.nodes k → WholeAt ks es s.memory k
 
 -- what an accepted call leaves under its own root; any other call leaves the state as it was
 abbrev pub Effect : State → Told → Said → State → Type 0
@@ -128,7 +128,7 @@ module _ (ks : Kinds) (lawful : LawfulKinds ks) (es : Encodings) (means : Lawful
     alone q i k e here = refl
     alone q i k e (step {b} r c h) =
         let at : b ≡ i = alone q i b e r in
-        let z : 0 < times c (names no_slots) = subst (λ (ss : List (Option ℕ)). 0 < times c (names ss)) e (subst (λ (x : ℕ). 0 < times c (names (slotsAt q.nodes x))) at h) in
+        let z : 0 < times c (names no_slots) = subst (λ (ss : List (Option ℕ)). 0 < times c (names ss)) e (subst (λ (x : ℕ). 0 < times c (names (slots_at q.nodes x))) at h) in
         absurd (omega arith)
 
     made_step : (q : Memory) (rs : List Row) (i : ℕ) → root < 32 → root_at s root ≡ None → ks.has kind ≡ true → n ≤ 1024 → parsed_rows (ks.kind kind) n bytes ≡ Some rs → Built ks m q hs kind n rs i → Step ks es s call done (with_root s q root (Some i))
@@ -302,7 +302,7 @@ module _ (ks : Kinds) (lawful : LawfulKinds ks) (es : Encodings) (means : Lawful
   module _ (root : ℕ) where
     read_done : (k : ℕ) → root_at s root ≡ Some k → (node_at m k).encoding ≡ 1 → Step ks es s (read root) (rows (node_at m k).kind (node_at m k).len (start_at m.nodes k) (run_of m k)) s
     read_done k held flat =
-        let used : 0 < countAt m.nodes k = held_used m.nodes hs k good.ordered.counts (root_held ks es s good root k held) in
+        let used : 0 < count_at m.nodes k = held_used m.nodes hs k good.ordered.counts (root_held ks es s good root k held) in
         let w = good.whole k used in
         let fit : flat_fields ks (fields_of (node_at m k)) ≡ true = sym (means.flat_fits (fields_of (node_at m k)) flat) ∙ w.fields_fit in
         let few : (node_at m k).len ≤ 1024 = leb-true (node_at m k).len 1024 (and_parts _ _ (and_parts _ _ fit).1).0 in

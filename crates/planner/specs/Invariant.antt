@@ -1,7 +1,7 @@
 -- A pool in order under a planner's roots, in the form that a planner holds it.
 use Rattle.std.specs.Prelude.{◌≡◌, ℕ, ◌+◌, ◌<◌, ◌≤◌, Bool, true, false, ◌&&◌, List, [], ◌∷◌, length, Some, None, Option, ◌==◌, ◌≢◌, slice_index_or}
 use Rattle.pool.specs.declared.node.Node.{Node}
-use Rattle.pool.specs.Memory.{blank, countAt, start_at, run_at}
+use Rattle.pool.specs.Memory.{blank, count_at, start_at, run_at}
 
 -- no word is in two runs
 abbrev pub Disjoint : List Node → Type 0
@@ -21,4 +21,4 @@ vacant nd =
 
 -- what is not in use is the free node
 abbrev pub Vacant : List Node → Type 0
-Vacant ns = (k : ℕ) → (k < length ns) × (countAt ns k ≡ 0) → vacant (slice_index_or ns k blank) ≡ true
+Vacant ns = (k : ℕ) → (k < length ns) × (count_at ns k ≡ 0) → vacant (slice_index_or ns k blank) ≡ true

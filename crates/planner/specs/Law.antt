@@ -3,7 +3,7 @@ use Rattle.std.specs.Prelude.{◌≡◌, ℕ, ◌<◌, ◌≤◌, Bool, true, fa
 use Rattle.rows.specs.declared.row.Row.{Row}
 use Rattle.rows.specs.Kind as kinds
 use Rattle.rows.specs.Kind.{Kinds}
-use Rattle.pool.specs.Memory.{node_at, countAt, start_at, run_of}
+use Rattle.pool.specs.Memory.{node_at, count_at, start_at, run_of}
 use Rattle.pool.specs.Counts.{names, Counts, Heights, Reaches, Exact}
 use Rattle.pool.specs.Order.{Low, Within, Apart, SameAt}
 use Rattle.encodings.specs.Meaning.{Encodings}
@@ -153,7 +153,7 @@ Others s c t = (r : ℕ) → (r ≢ own_root c) → Spares s t r
 
 -- the nodes and the words in a state
 pub record Whole (ks : Kinds) (es : Encodings) (s : State) : Type 0 where
-  pub each : (k : ℕ) → 0 < countAt s.memory.nodes k → WholeAt ks es s.memory k
+  pub each : (k : ℕ) → 0 < count_at s.memory.nodes k → WholeAt ks es s.memory k
   pub heights : Heights s.memory.nodes
   pub low : Low s.memory.nodes
   pub within : Within s.memory.nodes s.memory.words

@@ -7,7 +7,7 @@ use Rattle.rows.proofs.Appending.{appended_long, appended_tidy, appended_whole}
 use Rattle.pool.specs.declared.node.Node.{Node}
 use Rattle.pool.specs.declared.node.PoolFault.{PoolFault}
 use Rattle.pool.specs.declared.node.PoolFault.TheVariants.{Height, Nodes, Words}
-use Rattle.pool.specs.Memory.{Memory, blank, no_slots, node_at, countAt, start_at, run_at, with_encoding, put_node, with_words, part, overwritten, run_of, with_run}
+use Rattle.pool.specs.Memory.{Memory, blank, no_slots, node_at, count_at, start_at, run_at, with_encoding, put_node, with_words, part, overwritten, run_of, with_run}
 use Rattle.pool.specs.Order.{Ordered, Change}
 use Rattle.pool.specs.Finding.{lowest_free, find_run, Room, Lowest, LowestNode}
 use Rattle.pool.specs.Building.{open_node, append_rows, finished, built}
@@ -44,7 +44,7 @@ room_clear m hs w s o room =
 
 -- what a build gives: a node that was free is a Flat array of these rows, and what others hold is as it was
 pub record Built (ks : Kinds) (m q : Memory) (hs : List ℕ) (kind n : ℕ) (rs : List Row) (i : ℕ) : Type 0 where
-  pub fresh : countAt m.nodes i ≡ 0
+  pub fresh : count_at m.nodes i ≡ 0
   pub change : Change m q (i ∷ hs) hs
   pub encoding_is : (node_at q i).encoding ≡ 1
   pub kind_is : (node_at q i).kind ≡ kind
@@ -66,7 +66,7 @@ module _ (ks : Kinds) (m : Memory) (hs : List ℕ) (kind n : ℕ) (rs : List Row
   run_built : List ℕ
   run_built = appended (ks.kind kind) n (replicate ((ks.kind kind).words n) 0) 0 rs
 
-  module _ (i s : ℕ) (inside : i < length m.nodes) (free : countAt m.nodes i ≡ 0) (room : Room m ((ks.kind kind).words n) s) where
+  module _ (i s : ℕ) (inside : i < length m.nodes) (free : count_at m.nodes i ≡ 0) (room : Room m ((ks.kind kind).words n) s) where
     opened_at : Memory
     opened_at = put_node m i (open_node kind n s ((ks.kind kind).words n))
 
@@ -159,20 +159,20 @@ built_is ks m hs kind n rs law o all taken = go (lowest_free m.nodes 0) (lowest_
     go (Some i) a (Some s) b = built_at ks m hs kind n rs law o all taken i s a.0 a.1 (b s refl)
 
 -- why a build is refused
-pub refused_nodes : (ks : Kinds) (m : Memory) (kind n : ℕ) (rs : List Row) → (built ks m kind n rs).0 ≡ Err Nodes → (k : ℕ) → k < length m.nodes → 0 < countAt m.nodes k
+pub refused_nodes : (ks : Kinds) (m : Memory) (kind n : ℕ) (rs : List Row) → (built ks m kind n rs).0 ≡ Err Nodes → (k : ℕ) → k < length m.nodes → 0 < count_at m.nodes k
 refused_nodes ks m kind n rs = go (lowest_free m.nodes 0) (lowest_free_is m.nodes) (find_run m ((ks.kind kind).words n))
   where
-    go : (f : Option ℕ) → LowestNode m.nodes f → (r : Option ℕ) → (found ks m kind n rs f r).0 ≡ Err Nodes → (k : ℕ) → k < length m.nodes → 0 < countAt m.nodes k
+    go : (f : Option ℕ) → LowestNode m.nodes f → (r : Option ℕ) → (found ks m kind n rs f r).0 ≡ Err Nodes → (k : ℕ) → k < length m.nodes → 0 < count_at m.nodes k
     go None a r e = a
     go (Some i) a None e = absurd (let z : ◌≡◌ {A = ℕ} 0 1 = cc in omega arith)
     go (Some i) a (Some s) e = absurd (let z : ◌≡◌ {A = ℕ} 0 1 = cc in omega arith)
 
 pub refused_words : (ks : Kinds) (m : Memory) (kind n : ℕ) (rs : List Row) → (built ks m kind n rs).0 ≡ Err Words
-    → ((i : ℕ) × (i < length m.nodes) × (countAt m.nodes i ≡ 0)) × ((s : ℕ) → Room m ((ks.kind kind).words n) s → ⊥)
+    → ((i : ℕ) × (i < length m.nodes) × (count_at m.nodes i ≡ 0)) × ((s : ℕ) → Room m ((ks.kind kind).words n) s → ⊥)
 refused_words ks m kind n rs = go (lowest_free m.nodes 0) (lowest_free_is m.nodes) (find_run m ((ks.kind kind).words n)) (find_run_is m ((ks.kind kind).words n))
   where
     go : (f : Option ℕ) → LowestNode m.nodes f → (r : Option ℕ) → Lowest m ((ks.kind kind).words n) r → (found ks m kind n rs f r).0 ≡ Err Words
-        → ((i : ℕ) × (i < length m.nodes) × (countAt m.nodes i ≡ 0)) × ((s : ℕ) → Room m ((ks.kind kind).words n) s → ⊥)
+        → ((i : ℕ) × (i < length m.nodes) × (count_at m.nodes i ≡ 0)) × ((s : ℕ) → Room m ((ks.kind kind).words n) s → ⊥)
     go None a r b e = absurd (let z : ◌≡◌ {A = ℕ} 0 1 = cc in omega arith)
     go (Some i) a None b e = ((i, a.0, a.1), b)
     go (Some i) a (Some s) b e = absurd (let z : ◌≡◌ {A = ℕ} 0 1 = cc in omega arith)

@@ -5,7 +5,7 @@ use Rattle.std.proofs.lemmas.Bool.{eqb-true, eqb-false}
 use Rattle.pool.specs.declared.node.Node.{Node}
 use Rattle.pool.specs.declared.node.PoolFault.{PoolFault}
 use Rattle.pool.specs.declared.node.PoolFault.TheVariants.{Nodes}
-use Rattle.pool.specs.Memory.{Memory, blank, node_at, countAt, slotsAt, start_at, run_at, with_count, part, put_node}
+use Rattle.pool.specs.Memory.{Memory, blank, node_at, count_at, slots_at, start_at, run_at, with_count, part, put_node}
 use Rattle.pool.specs.Counts.{names, times, named, Counts, Heights, tallest, Reaches, here, step}
 use Rattle.pool.specs.Order.{Within, Apart, Slotless, Freed, Cleared, Ordered, SameAt, Keeps}
 use Rattle.pool.specs.Sharing.{recounted, retained, each_slot}
@@ -16,7 +16,7 @@ use Rattle.pool.proofs.Spared.{Spared, KeptAt, same, gone, spared_refl, spared_t
 use Rattle.pool.proofs.Found.{lowest_free_is}
 
 -- ---- another count at n
-pub recount_cases : (ns : List Node) (n c : ℕ) → n < length ns → (k : ℕ) → ((k ≡ n) × (countAt (recount ns n c) k ≡ c)) ⊎ ((k ≡ n → ⊥) × (countAt (recount ns n c) k ≡ countAt ns k))
+pub recount_cases : (ns : List Node) (n c : ℕ) → n < length ns → (k : ℕ) → ((k ≡ n) × (count_at (recount ns n c) k ≡ c)) ⊎ ((k ≡ n → ⊥) × (count_at (recount ns n c) k ≡ count_at ns k))
 recount_cases ns n c h k =
     ⊎_elim
     (λ q. inl (q.0, ap (λ (x : Node). x.count) q.1))
@@ -25,14 +25,14 @@ recount_cases ns n c h k =
 
 -- all that the slots name is in use
 abbrev pub Used : List Node → List (Option ℕ) → Type 0
-Used ns ss = (c : ℕ) → 0 < times c (names ss) → 0 < countAt ns c
+Used ns ss = (c : ℕ) → 0 < times c (names ss) → 0 < count_at ns c
 
 -- a holder more: no count falls, and each rises by at most 1
-pub retained_more : (m : Memory) (n k : ℕ) → 0 < countAt m.nodes n → (countAt m.nodes k ≤ countAt (retained m n).nodes k) × (countAt (retained m n).nodes k ≤ countAt m.nodes k + 1)
+pub retained_more : (m : Memory) (n k : ℕ) → 0 < count_at m.nodes n → (count_at m.nodes k ≤ count_at (retained m n).nodes k) × (count_at (retained m n).nodes k ≤ count_at m.nodes k + 1)
 retained_more m n k u =
-    let c : ℕ = countAt m.nodes n + 1 in
+    let c : ℕ = count_at m.nodes n + 1 in
     ⊎_elim
-    (λ q. let e = ap (λ (j : ℕ). countAt m.nodes j) q.0 in (omega (arith, q.1, e), omega (arith, q.1, e)))
+    (λ q. let e = ap (λ (j : ℕ). count_at m.nodes j) q.0 in (omega (arith, q.1, e), omega (arith, q.1, e)))
     (λ q. (omega (arith, q.1), omega (arith, q.1)))
     (recount_cases m.nodes n c (in_range m.nodes n u) k)
 
@@ -42,7 +42,7 @@ used_more m c ss u d h = omega (arith, u d (omega arith), (retained_more m c d (
 pub record AllRetained (m q : Memory) (ss : List (Option ℕ)) : Type 0 where
   pub spared : Spared m q
   pub counts : (hs : List ℕ) → Counts m.nodes hs → Counts q.nodes (names ss ++ hs)
-  pub more : (k : ℕ) → countAt m.nodes k ≤ countAt q.nodes k
+  pub more : (k : ℕ) → count_at m.nodes k ≤ count_at q.nodes k
 
 pub all_retained : (m : Memory) (ss : List (Option ℕ)) → Used m.nodes ss → AllRetained m (each_slot retained m ss) ss
 all_retained m [] u = record { spared = spared_refl m; counts = λ hs s. s; more = λ k. omega arith }
@@ -53,7 +53,7 @@ all_retained m (Some c ∷ ss) u =
     let q : Memory = each_slot retained b ss in
     let r = all_retained b ss (used_more m c ss u) in
     record {
-      spared = spared_trans m b (recount_spared m c (countAt m.nodes c + 1) v (omega arith)) q r.spared;
+      spared = spared_trans m b (recount_spared m c (count_at m.nodes c + 1) v (omega arith)) q r.spared;
       counts = λ hs s.
           counts_like q.nodes (names ss ++ (c ∷ hs)) (c ∷ (names ss ++ hs))
           (λ k. omega (arith, times_append k (names ss) (c ∷ hs), times_append k (names ss) hs))
@@ -64,7 +64,7 @@ all_retained m (Some c ∷ ss) u =
 -- ---- the loop of `retain_slots`
 pub record Retaining (entry m : Memory) (all rest : List (Option ℕ)) (left : ℕ) : Type 0 where
   pub used : Used m.nodes rest
-  pub room : (k : ℕ) → countAt m.nodes k + left < 65536
+  pub room : (k : ℕ) → count_at m.nodes k + left < 65536
   pub gives : each_slot retained m rest ≡ each_slot retained entry all
 
 pub retaining_none : (entry m : Memory) (all rest : List (Option ℕ)) (left : ℕ) → Retaining entry m all (None ∷ rest) (suc left) → Retaining entry m all rest left
@@ -82,25 +82,25 @@ retaining_some entry m all rest left c r =
 pub same_trans : (m q r : Memory) (k : ℕ) → SameAt m q k → SameAt q r k → SameAt m r k
 same_trans m q r k s t =
     record {
-      same_node = t.same_node ∙ ap (λ (x : Node). with_count x (countAt r.nodes k)) s.same_node;
+      same_node = t.same_node ∙ ap (λ (x : Node). with_count x (count_at r.nodes k)) s.same_node;
       same_run = t.same_run ∙ s.same_run;
     }
 
 -- what is reached from a node in use is in use
-reach_used : (ns : List Node) (hs : List ℕ) → Counts ns hs → (a k : ℕ) → 0 < countAt ns a → Reaches ns a k → 0 < countAt ns k
+reach_used : (ns : List Node) (hs : List ℕ) → Counts ns hs → (a k : ℕ) → 0 < count_at ns a → Reaches ns a k → 0 < count_at ns k
 reach_used ns hs counts a k u here = u
 reach_used ns hs counts a k u (step {b} r c q) = named_used ns hs counts b c (reach_used ns hs counts a b u r) q
 
 -- all but i is as it was: then so is what others hold, where no slot names i
 module _ (m q : Memory) (i : ℕ) (hs : List ℕ) (counts : Counts m.nodes hs) (unnamed : named i m.nodes ≡ 0)
-    (others : (k : ℕ) → 0 < countAt m.nodes k → (k ≡ i → ⊥) → SameAt m q k) where
-  not_reached : (a k : ℕ) → 0 < countAt m.nodes a → (a ≡ i → ⊥) → Reaches m.nodes a k → k ≡ i → ⊥
+    (others : (k : ℕ) → 0 < count_at m.nodes k → (k ≡ i → ⊥) → SameAt m q k) where
+  not_reached : (a k : ℕ) → 0 < count_at m.nodes a → (a ≡ i → ⊥) → Reaches m.nodes a k → k ≡ i → ⊥
   not_reached a k u ne here e = ne e
   not_reached a k u ne (step {b} r c h) e =
       let v = reach_used m.nodes hs counts a b u r in
       omega (arith, named_at c m.nodes b, names_used c (node_at m b) v, ap (λ (j : ℕ). named j m.nodes) e)
 
-  pub others_keep : (gs : List ℕ) → ((k : ℕ) → 0 < times k gs → 0 < countAt m.nodes k) → times i gs ≡ 0 → Keeps m q gs
+  pub others_keep : (gs : List ℕ) → ((k : ℕ) → 0 < times k gs → 0 < count_at m.nodes k) → times i gs ≡ 0 → Keeps m q gs
   others_keep gs used none k h =
       let a : ℕ = h.0 in
       let u = used a h.1 in
@@ -155,12 +155,12 @@ module _ (m : Memory) (n : ℕ) (nd : Node) (s : Settles m n nd) where
         ap (λ (x : Node). tallest (set m.nodes n nd) x.slots) q.1,
       ))
       (λ q.
-      let v : 0 < countAt m.nodes k = omega (arith, u, ap (λ (x : Node). x.count) q.1) in
-      let none : times n (names (slotsAt m.nodes k)) ≡ 0 = omega (arith, s.unnamed, named_at n m.nodes k, names_used n (node_at m k) v) in
+      let v : 0 < count_at m.nodes k = omega (arith, u, ap (λ (x : Node). x.count) q.1) in
+      let none : times n (names (slots_at m.nodes k)) ≡ 0 = omega (arith, s.unnamed, named_at n m.nodes k, names_used n (node_at m k) v) in
       omega (
         arith,
         heights k v,
-        as_tall (slotsAt m.nodes k) none,
+        as_tall (slots_at m.nodes k) none,
         ap (λ (x : Node). x.height) q.1,
         ap (λ (x : Node). tallest (set m.nodes n nd) x.slots) q.1,
       ))
@@ -236,25 +236,25 @@ module _ (m : Memory) (n : ℕ) (nd : Node) (s : Settles m n nd) where
 pub record Owned (m q : Memory) (p : ℕ) (hs : List ℕ) (i : ℕ) : Type 0 where
   pub ordered : Ordered q (i ∷ hs)
   pub node : node_at q i ≡ with_count (node_at m p) 1
-  pub others : (k : ℕ) → 0 < countAt m.nodes k → (k ≡ i → ⊥) → SameAt m q k
+  pub others : (k : ℕ) → 0 < count_at m.nodes k → (k ≡ i → ⊥) → SameAt m q k
   pub unnamed : named i m.nodes ≡ 0
   pub unheld : times i hs ≡ 0
-  pub own : countAt m.nodes p ≡ 1 → i ≡ p
-  pub copy : 1 < countAt m.nodes p → LowestNode m.nodes (Some i)
+  pub own : count_at m.nodes p ≡ 1 → i ≡ p
+  pub copy : 1 < count_at m.nodes p → LowestNode m.nodes (Some i)
 
 abbrev pub OwnedAs : Memory → ℕ → List ℕ → Result ℕ PoolFault → Memory → Type 0
 OwnedAs m p hs (Ok i) q = Owned m q p hs i
 OwnedAs m p hs (Err e) q = (e ≡ Nodes) × (q ≡ m) × Crowded m p
 
 module _ (m : Memory) (p : ℕ) (hs : List ℕ) (o : Ordered m (p ∷ hs)) where
-  p_used : 0 < countAt m.nodes p
+  p_used : 0 < count_at m.nodes p
   p_used = owed_used m.nodes p hs o.counts
 
   -- p's slots name what is in use
-  pub slots_used : Used m.nodes (slotsAt m.nodes p)
+  pub slots_used : Used m.nodes (slots_at m.nodes p)
   slots_used c h = named_used m.nodes (p ∷ hs) o.counts p c p_used h
 
-  alone : countAt m.nodes p ≡ 1 → Owned m m p hs p
+  alone : count_at m.nodes p ≡ 1 → Owned m m p hs p
   alone e =
       record {
         ordered = o;
@@ -268,57 +268,57 @@ module _ (m : Memory) (p : ℕ) (hs : List ℕ) (o : Ordered m (p ∷ hs)) where
 
 -- p without the holder, its slots retained
 abbrev pub spread : Memory → ℕ → Memory
-spread m p = each_slot retained (recounted m p (countAt m.nodes p - 1)) (slotsAt m.nodes p)
+spread m p = each_slot retained (recounted m p (count_at m.nodes p - 1)) (slots_at m.nodes p)
 
 abbrev pub copied : Memory → ℕ → ℕ → Memory
 copied m p i = put_node (spread m p) i (with_count (node_at m p) 1)
 
 -- with a holder less and others left, what p's slots name is in use
-pub less_slots : (m : Memory) (p : ℕ) (hs : List ℕ) → Counts m.nodes (p ∷ hs) → 1 < countAt m.nodes p → Used (recounted m p (countAt m.nodes p - 1)).nodes (slotsAt m.nodes p)
+pub less_slots : (m : Memory) (p : ℕ) (hs : List ℕ) → Counts m.nodes (p ∷ hs) → 1 < count_at m.nodes p → Used (recounted m p (count_at m.nodes p - 1)).nodes (slots_at m.nodes p)
 less_slots m p hs counts shared c h =
     ⊎_elim
     (λ q. omega (arith, q.1))
     (λ q. omega (arith, q.1, named_used m.nodes (p ∷ hs) counts p c (owed_used m.nodes p hs counts) h))
-    (recount_cases m.nodes p (countAt m.nodes p - 1) (owed_in m.nodes p hs counts) c)
+    (recount_cases m.nodes p (count_at m.nodes p - 1) (owed_in m.nodes p hs counts) c)
 
-pub spread_long : (m : Memory) (p : ℕ) (hs : List ℕ) → Counts m.nodes (p ∷ hs) → 1 < countAt m.nodes p → length (spread m p).nodes ≡ length m.nodes
+pub spread_long : (m : Memory) (p : ℕ) (hs : List ℕ) → Counts m.nodes (p ∷ hs) → 1 < count_at m.nodes p → length (spread m p).nodes ≡ length m.nodes
 spread_long m p hs counts shared =
-    (all_retained (recounted m p (countAt m.nodes p - 1)) (slotsAt m.nodes p) (less_slots m p hs counts shared)).spared.nodes_long
-    ∙ length-set m.nodes p (with_count (node_at m p) (countAt m.nodes p - 1))
+    (all_retained (recounted m p (count_at m.nodes p - 1)) (slots_at m.nodes p) (less_slots m p hs counts shared)).spared.nodes_long
+    ∙ length-set m.nodes p (with_count (node_at m p) (count_at m.nodes p - 1))
 
-module _ (m : Memory) (p : ℕ) (hs : List ℕ) (o : Ordered m (p ∷ hs)) (shared : 1 < countAt m.nodes p) where
-  less_spared : Spared m (recounted m p (countAt m.nodes p - 1))
-  less_spared = recount_spared m p (countAt m.nodes p - 1) (omega arith) (omega arith)
+module _ (m : Memory) (p : ℕ) (hs : List ℕ) (o : Ordered m (p ∷ hs)) (shared : 1 < count_at m.nodes p) where
+  less_spared : Spared m (recounted m p (count_at m.nodes p - 1))
+  less_spared = recount_spared m p (count_at m.nodes p - 1) (omega arith) (omega arith)
 
-  all : AllRetained (recounted m p (countAt m.nodes p - 1)) (spread m p) (slotsAt m.nodes p)
-  all = all_retained (recounted m p (countAt m.nodes p - 1)) (slotsAt m.nodes p) (less_slots m p hs o.counts shared)
+  all : AllRetained (recounted m p (count_at m.nodes p - 1)) (spread m p) (slots_at m.nodes p)
+  all = all_retained (recounted m p (count_at m.nodes p - 1)) (slots_at m.nodes p) (less_slots m p hs o.counts shared)
 
   spread_spared : Spared m (spread m p)
-  spread_spared = spared_trans m (recounted m p (countAt m.nodes p - 1)) less_spared (spread m p) all.spared
+  spread_spared = spared_trans m (recounted m p (count_at m.nodes p - 1)) less_spared (spread m p) all.spared
 
-  spread_counts : Counts (spread m p).nodes (names (slotsAt m.nodes p) ++ hs)
-  spread_counts = all.counts hs (less_counts m.nodes p hs o.counts (countAt m.nodes p - 1) (omega arith) (omega arith))
+  spread_counts : Counts (spread m p).nodes (names (slots_at m.nodes p) ++ hs)
+  spread_counts = all.counts hs (less_counts m.nodes p hs o.counts (count_at m.nodes p - 1) (omega arith) (omega arith))
 
-  spread_ordered : Ordered (spread m p) (names (slotsAt m.nodes p) ++ hs)
-  spread_ordered = spared_ordered m (spread m p) spread_spared (p ∷ hs) (names (slotsAt m.nodes p) ++ hs) o spread_counts
+  spread_ordered : Ordered (spread m p) (names (slots_at m.nodes p) ++ hs)
+  spread_ordered = spared_ordered m (spread m p) spread_spared (p ∷ hs) (names (slots_at m.nodes p) ++ hs) o spread_counts
 
   -- what was in use still is, as it was
-  spread_used : (k : ℕ) → 0 < countAt m.nodes k → 0 < countAt (spread m p).nodes k
+  spread_used : (k : ℕ) → 0 < count_at m.nodes k → 0 < count_at (spread m p).nodes k
   spread_used k u =
       ⊎_elim
       (λ q. omega (arith, q.1, all.more k))
       (λ q. omega (arith, q.1, all.more k, u))
-      (recount_cases m.nodes p (countAt m.nodes p - 1) (owed_in m.nodes p hs o.counts) k)
+      (recount_cases m.nodes p (count_at m.nodes p - 1) (owed_in m.nodes p hs o.counts) k)
 
-  spread_same : (k : ℕ) → 0 < countAt m.nodes k → SameAt m (spread m p) k
+  spread_same : (k : ℕ) → 0 < count_at m.nodes k → SameAt m (spread m p) k
   spread_same k u = spared_same m (spread m p) spread_spared o.apart k (spread_used k u)
 
   still_free : (x y : Node) → KeptAt x y → x.count ≡ 0 → y.count ≡ 0
   still_free x y (same e u v) z = v z
   still_free x y (gone e) z = ap (λ (nd : Node). nd.count) e
 
-  module _ (i : ℕ) (place : i < length m.nodes) (free : countAt m.nodes i ≡ 0) (bare : run_at m.nodes p ≡ 0) where
-    spread_free : countAt (spread m p).nodes i ≡ 0
+  module _ (i : ℕ) (place : i < length m.nodes) (free : count_at m.nodes i ≡ 0) (bare : run_at m.nodes p ≡ 0) where
+    spread_free : count_at (spread m p).nodes i ≡ 0
     spread_free = still_free (node_at m i) (node_at (spread m p) i) (spread_spared.kept i) free
 
     spread_in : i < length (spread m p).nodes
@@ -326,7 +326,7 @@ module _ (m : Memory) (p : ℕ) (hs : List ℕ) (o : Ordered m (p ∷ hs)) (shar
 
     copy_settles : Settles (spread m p) i (with_count (node_at m p) 1)
     copy_settles =
-        let ss : List (Option ℕ) = slotsAt m.nodes p in
+        let ss : List (Option ℕ) = slots_at m.nodes p in
         let c = spread_counts i in
         let tall : tallest (spread m p).nodes ss ≡ tallest m.nodes ss
         = tallest_same m.nodes (spread m p).nodes ss (λ k h. ap (λ (x : Node). x.height) (spread_same k (slots_used m p hs o k h)).same_node) in
@@ -346,7 +346,7 @@ module _ (m : Memory) (p : ℕ) (hs : List ℕ) (o : Ordered m (p ∷ hs)) (shar
     copy_counts : Counts (copied m p i).nodes (i ∷ hs)
     copy_counts =
         let nd : Node = with_count (node_at m p) 1 in
-        let ss : List (Option ℕ) = slotsAt m.nodes p in
+        let ss : List (Option ℕ) = slots_at m.nodes p in
         let ns : List Node = (spread m p).nodes in
         put_counts ns i nd (names ss ++ hs) (i ∷ hs) spread_in spread_counts
         (λ k h e. omega (arith, spread_free, times_append k (names ss) hs, names_free k (get_or ns i blank) spread_free, names_used k nd (omega arith)))
@@ -355,7 +355,7 @@ module _ (m : Memory) (p : ℕ) (hs : List ℕ) (o : Ordered m (p ∷ hs)) (shar
     pub copy_owned : LowestNode m.nodes (Some i) → Owned m (copied m p i) p hs i
     copy_owned lowest =
         record {
-          ordered = settled_ordered (spread m p) i (with_count (node_at m p) 1) copy_settles (names (slotsAt m.nodes p) ++ hs) (i ∷ hs) spread_ordered copy_counts;
+          ordered = settled_ordered (spread m p) i (with_count (node_at m p) 1) copy_settles (names (slots_at m.nodes p) ++ hs) (i ∷ hs) spread_ordered copy_counts;
           node = get_or-set_same (spread m p).nodes i (with_count (node_at m p) 1) blank spread_in;
           others = λ k u ne. same_trans m (spread m p) (copied m p i) k (spread_same k u) (settled_others (spread m p) i (with_count (node_at m p) 1) copy_settles k ne);
           unnamed = omega (arith, o.counts i, free);
@@ -371,12 +371,12 @@ owned_by m p b f =
 
 pub owned_is : (m : Memory) (p : ℕ) (hs : List ℕ) → Ordered m (p ∷ hs) → run_at m.nodes p ≡ 0 → OwnedAs m p hs (owned m p).0 (owned m p).1
 unfolding owned_by
-owned_is m p hs o bare = go (eqb (countAt m.nodes p) 1) refl (lowest_free m.nodes 0) (lowest_free_is m.nodes)
+owned_is m p hs o bare = go (eqb (count_at m.nodes p) 1) refl (lowest_free m.nodes 0) (lowest_free_is m.nodes)
   where
-    many : eqb (countAt m.nodes p) 1 ≡ false → 1 < countAt m.nodes p
-    many e = let u = owed_used m.nodes p hs o.counts in let ne = eqb-false (countAt m.nodes p) 1 e in omega arith
+    many : eqb (count_at m.nodes p) 1 ≡ false → 1 < count_at m.nodes p
+    many e = let u = owed_used m.nodes p hs o.counts in let ne = eqb-false (count_at m.nodes p) 1 e in omega arith
 
-    go : (b : Bool) → eqb (countAt m.nodes p) 1 ≡ b → (f : Option ℕ) → LowestNode m.nodes f → OwnedAs m p hs (owned_by m p b f).0 (owned_by m p b f).1
-    go true e f h = alone m p hs o (eqb-true (countAt m.nodes p) 1 e)
+    go : (b : Bool) → eqb (count_at m.nodes p) 1 ≡ b → (f : Option ℕ) → LowestNode m.nodes f → OwnedAs m p hs (owned_by m p b f).0 (owned_by m p b f).1
+    go true e f h = alone m p hs o (eqb-true (count_at m.nodes p) 1 e)
     go false e None h = (refl, refl, record { shared = many e; full = h })
     go false e (Some i) h = copy_owned m p hs o (many e) i h.0 h.1 bare h

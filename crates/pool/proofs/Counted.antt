@@ -3,7 +3,7 @@ use Rattle.std.proofs.Common.{◌≡◌, ℕ, zero, suc, ◌+◌, ◌*◌, ◌<�
 use Rattle.std.proofs.lemmas.List.{get_or-set_same, get_or-set_other, get_or_past}
 use Rattle.std.proofs.lemmas.Bool.{cases_lt, cases_eq, eq-eqb, ne_eqb, lt-ltb, le-ltb, cond-true, cond-false}
 use Rattle.pool.specs.declared.node.Node.{Node}
-use Rattle.pool.specs.Memory.{Memory, blank, free_node, countAt, heightAt, slotsAt, with_count}
+use Rattle.pool.specs.Memory.{Memory, blank, free_node, count_at, height_at, slots_at, with_count}
 use Rattle.pool.specs.Counts.{names, hit, times, names_of, named, Counts, tallest, Heights, Falling, Reaches, here, step, Held}
 use Rattle.pool.specs.Order.{Eight, Ordered}
 
@@ -46,7 +46,7 @@ named_by k (x ∷ xs) h =
     ⊎_elim (λ l. (0, l)) (λ l. let r : (i : ℕ) × (0 < names_of k (get_or xs i blank)) = named_by k xs (omega arith) in (suc r.0, r.1)) (cases_lt 0 (names_of k x))
 
 -- a node in use stands in the pool
-pub in_range : (ns : List Node) (k : ℕ) → 0 < countAt ns k → k < length ns
+pub in_range : (ns : List Node) (k : ℕ) → 0 < count_at ns k → k < length ns
 in_range ns k h = ⊎_elim (λ l. l) (λ l. absurd (omega (arith, ap (λ (nd : Node). nd.count) (get_or_past ns k blank l)))) (cases_lt k (length ns))
 
 -- the number of names of a node in use, and of one that is not
@@ -60,7 +60,7 @@ pub names_use : (k : ℕ) (nd : Node) → 0 < names_of k nd → 0 < nd.count
 names_use k nd h = ⊎_elim (λ l. l) (λ l. absurd (omega (arith, names_free k nd (omega arith)))) (cases_lt 0 nd.count)
 
 -- what a node in use names is in use
-pub named_used : (ns : List Node) (hs : List ℕ) → Counts ns hs → (k c : ℕ) → 0 < countAt ns k → 0 < times c (names (slotsAt ns k)) → 0 < countAt ns c
+pub named_used : (ns : List Node) (hs : List ℕ) → Counts ns hs → (k c : ℕ) → 0 < count_at ns k → 0 < times c (names (slots_at ns k)) → 0 < count_at ns c
 named_used ns hs counts k c u h = omega (arith, counts c, named_at c ns k, names_used c (get_or ns k blank) u)
 
 -- ---- one node put: at each place it is n's, and has the new node, or it is as it was
@@ -73,16 +73,16 @@ set_cases ns n nd h k =
 
 -- The balance at k: what is counted and what counts, before and after.
 abbrev pub Balance : List Node → ℕ → Node → List ℕ → List ℕ → ℕ → ℕ → Type 0
-Balance ns n nd hs hs' k new = new + (times k hs + names_of k (get_or ns n blank)) ≡ countAt ns k + (times k hs' + names_of k nd)
+Balance ns n nd hs hs' k new = new + (times k hs + names_of k (get_or ns n blank)) ≡ count_at ns k + (times k hs' + names_of k nd)
 
 pub put_counts : (ns : List Node) (n : ℕ) (nd : Node) (hs hs' : List ℕ) → n < length ns → Counts ns hs
-    → ((k : ℕ) → hit n k ≡ 1 → countAt ns k ≡ countAt ns n → Balance ns n nd hs hs' k nd.count)
-    → ((k : ℕ) → hit n k ≡ 0 → Balance ns n nd hs hs' k (countAt ns k))
+    → ((k : ℕ) → hit n k ≡ 1 → count_at ns k ≡ count_at ns n → Balance ns n nd hs hs' k nd.count)
+    → ((k : ℕ) → hit n k ≡ 0 → Balance ns n nd hs hs' k (count_at ns k))
     → Counts (set ns n nd) hs'
 put_counts ns n nd hs hs' h counts at_n others k =
     let s = named_set k ns n nd h in
     ⊎_elim
-    (λ q. omega (arith, s, counts k, ap (λ (x : Node). x.count) q.1, at_n k (hit_same n k (sym q.0)) (ap (λ (j : ℕ). countAt ns j) q.0)))
+    (λ q. omega (arith, s, counts k, ap (λ (x : Node). x.count) q.1, at_n k (hit_same n k (sym q.0)) (ap (λ (j : ℕ). count_at ns j) q.0)))
     (λ q. omega (arith, s, counts k, ap (λ (x : Node). x.count) q.1, others k (hit_other n k (λ e. q.0 (sym e)))))
     (set_cases ns n nd h k)
 
@@ -94,22 +94,22 @@ abbrev pub recount : List Node → ℕ → ℕ → List Node
 recount ns n c = set ns n (with_count (get_or ns n blank) c)
 
 -- a holder more
-pub more_counts : (ns : List Node) (n : ℕ) (hs : List ℕ) → 0 < countAt ns n → Counts ns hs → Counts (recount ns n (countAt ns n + 1)) (n ∷ hs)
+pub more_counts : (ns : List Node) (n : ℕ) (hs : List ℕ) → 0 < count_at ns n → Counts ns hs → Counts (recount ns n (count_at ns n + 1)) (n ∷ hs)
 more_counts ns n hs u counts =
-    let nd : Node = with_count (get_or ns n blank) (countAt ns n + 1) in
+    let nd : Node = with_count (get_or ns n blank) (count_at ns n + 1) in
     put_counts ns n nd hs (n ∷ hs) (in_range ns n u) counts
     (λ k h e. omega (arith, names_used k (get_or ns n blank) u, names_used k nd (omega arith)))
     (λ k h. omega (arith, names_used k (get_or ns n blank) u, names_used k nd (omega arith)))
 
 module _ (ns : List Node) (n : ℕ) (hs : List ℕ) (counts : Counts ns (n ∷ hs)) where
-  pub owed_used : 0 < countAt ns n
+  pub owed_used : 0 < count_at ns n
   owed_used = omega (arith, counts n, times_here n hs)
 
   pub owed_in : n < length ns
   owed_in = in_range ns n owed_used
 
   -- a holder less, and not the last
-  pub less_counts : (c : ℕ) → 0 < c → countAt ns n ≡ suc c → Counts (recount ns n c) hs
+  pub less_counts : (c : ℕ) → 0 < c → count_at ns n ≡ suc c → Counts (recount ns n c) hs
   less_counts c h e =
       let nd : Node = with_count (get_or ns n blank) c in
       put_counts ns n nd (n ∷ hs) hs owed_in counts
@@ -117,23 +117,23 @@ module _ (ns : List Node) (n : ℕ) (hs : List ℕ) (counts : Counts ns (n ∷ h
       (λ k q. omega (arith, names_used k (get_or ns n blank) owed_used, names_used k nd h))
 
   -- the last holder less: what the node names is now held in its place
-  pub free_counts : countAt ns n ≡ 1 → Counts (set ns n free_node) (names (slotsAt ns n) ++ hs)
+  pub free_counts : count_at ns n ≡ 1 → Counts (set ns n free_node) (names (slots_at ns n) ++ hs)
   free_counts e =
-      put_counts ns n free_node (n ∷ hs) (names (slotsAt ns n) ++ hs) owed_in counts
-      (λ k q d. omega (arith, times_append k (names (slotsAt ns n)) hs, names_used k (get_or ns n blank) owed_used, names_free k free_node refl))
-      (λ k q. omega (arith, times_append k (names (slotsAt ns n)) hs, names_used k (get_or ns n blank) owed_used, names_free k free_node refl))
+      put_counts ns n free_node (n ∷ hs) (names (slots_at ns n) ++ hs) owed_in counts
+      (λ k q d. omega (arith, times_append k (names (slots_at ns n)) hs, names_used k (get_or ns n blank) owed_used, names_free k free_node refl))
+      (λ k q. omega (arith, times_append k (names (slots_at ns n)) hs, names_used k (get_or ns n blank) owed_used, names_free k free_node refl))
 
 -- ---- heights
-pub tallest_at : (ns : List Node) (ss : List (Option ℕ)) (c : ℕ) → 0 < times c (names ss) → heightAt ns c ≤ tallest ns ss
+pub tallest_at : (ns : List Node) (ss : List (Option ℕ)) (c : ℕ) → 0 < times c (names ss) → height_at ns c ≤ tallest ns ss
 tallest_at ns [] c q = absurd (omega arith)
 tallest_at ns (None ∷ ss) c q = tallest_at ns ss c q
 tallest_at ns (Some x ∷ ss) c q =
     ⊎_elim
-    (λ (e : x ≡ c). omega (arith, ap (λ (j : ℕ). heightAt ns j) e))
+    (λ (e : x ≡ c). omega (arith, ap (λ (j : ℕ). height_at ns j) e))
     (λ (e : x ≡ c → ⊥). omega (arith, tallest_at ns ss c (omega (arith, hit_other x c e))))
     (cases_eq x c)
 
-pub tallest_same : (a b : List Node) (ss : List (Option ℕ)) → ((c : ℕ) → 0 < times c (names ss) → heightAt b c ≡ heightAt a c) → tallest b ss ≡ tallest a ss
+pub tallest_same : (a b : List Node) (ss : List (Option ℕ)) → ((c : ℕ) → 0 < times c (names ss) → height_at b c ≡ height_at a c) → tallest b ss ≡ tallest a ss
 tallest_same a b [] e = refl
 tallest_same a b (None ∷ ss) e = tallest_same a b ss e
 tallest_same a b (Some c ∷ ss) e = omega (arith, e c (times_here c (names ss)), tallest_same a b ss (λ d q. e d (omega arith)))
@@ -141,13 +141,13 @@ tallest_same a b (Some c ∷ ss) e = omega (arith, e c (times_here c (names ss))
 pub heights_falling : (ns : List Node) (hs : List ℕ) → Counts ns hs → Heights ns → Falling ns
 heights_falling ns hs counts heights k c h =
     let u = names_use c (get_or ns k blank) h in
-    omega (arith, heights k u, tallest_at ns (slotsAt ns k) c (omega (arith, names_used c (get_or ns k blank) u)))
+    omega (arith, heights k u, tallest_at ns (slots_at ns k) c (omega (arith, names_used c (get_or ns k blank) u)))
 
 -- above the heights of all that the slots name
 abbrev pub above : List Node → List (Option ℕ) → ℕ
 above ns [] = 0
 above ns (None ∷ ss) = above ns ss
-above ns (Some c ∷ ss) = max (suc (heightAt ns c)) (above ns ss)
+above ns (Some c ∷ ss) = max (suc (height_at ns c)) (above ns ss)
 
 pub above_tallest : (ns : List Node) (ss : List (Option ℕ)) → above ns ss ≤ suc (tallest ns ss)
 above_tallest ns [] = omega arith
@@ -159,19 +159,19 @@ tallest_above ns [] = omega arith
 tallest_above ns (None ∷ ss) = tallest_above ns ss
 tallest_above ns (Some c ∷ ss) = omega (arith, tallest_above ns ss)
 
-pub above_lower : (a b : List Node) → ((k : ℕ) → heightAt b k ≤ heightAt a k) → (ss : List (Option ℕ)) → above b ss ≤ above a ss
+pub above_lower : (a b : List Node) → ((k : ℕ) → height_at b k ≤ height_at a k) → (ss : List (Option ℕ)) → above b ss ≤ above a ss
 above_lower a b e [] = omega arith
 above_lower a b e (None ∷ ss) = above_lower a b e ss
 above_lower a b e (Some c ∷ ss) = omega (arith, e c, above_lower a b e ss)
 
-pub above_below : (ns : List Node) (ss : List (Option ℕ)) (h : ℕ) → ((c : ℕ) → 0 < times c (names ss) → heightAt ns c < h) → above ns ss ≤ h
+pub above_below : (ns : List Node) (ss : List (Option ℕ)) (h : ℕ) → ((c : ℕ) → 0 < times c (names ss) → height_at ns c < h) → above ns ss ≤ h
 above_below ns [] h p = omega arith
 above_below ns (None ∷ ss) h p = above_below ns ss h p
 above_below ns (Some c ∷ ss) h p = omega (arith, p c (times_here c (names ss)), above_below ns ss h (λ d q. p d (omega arith)))
 
 -- the slots of a node in use
-pub above_slots : (ns : List Node) (n : ℕ) → Falling ns → 0 < countAt ns n → above ns (slotsAt ns n) ≤ heightAt ns n
-above_slots ns n f u = above_below ns (slotsAt ns n) (heightAt ns n) (λ c h. f n c (omega (arith, names_used c (get_or ns n blank) u)))
+pub above_slots : (ns : List Node) (n : ℕ) → Falling ns → 0 < count_at ns n → above ns (slots_at ns n) ≤ height_at ns n
+above_slots ns n f u = above_below ns (slots_at ns n) (height_at ns n) (λ c h. f n c (omega (arith, names_used c (get_or ns n blank) u)))
 
 -- ---- how high a count can be
 pub names_most : (k : ℕ) (ss : List (Option ℕ)) → times k (names ss) ≤ length ss
@@ -191,13 +191,13 @@ named_most k [] e = omega arith
 named_most k (nd ∷ ns) e =
     omega (arith, names_of_most k nd, e 0 (omega arith), named_most k ns (λ j h. e (suc j) (omega arith)))
 
-pub count_bound : (m : Memory) (hs : List ℕ) → Ordered m hs → (k : ℕ) → countAt m.nodes k ≤ length hs + 2048
+pub count_bound : (m : Memory) (hs : List ℕ) → Ordered m hs → (k : ℕ) → count_at m.nodes k ≤ length hs + 2048
 count_bound m hs o k = omega (arith, o.counts k, times_most k hs, named_most k m.nodes o.eight, o.nodes_long)
 
 -- ---- what is held is in use
-pub reached_used : (ns : List Node) (hs : List ℕ) → Counts ns hs → (a k : ℕ) → 0 < times a hs → Reaches ns a k → 0 < countAt ns k
+pub reached_used : (ns : List Node) (hs : List ℕ) → Counts ns hs → (a k : ℕ) → 0 < times a hs → Reaches ns a k → 0 < count_at ns k
 reached_used ns hs counts a k h here = omega (arith, counts a)
 reached_used ns hs counts a k h (step {b} r c q) = named_used ns hs counts b c (reached_used ns hs counts a b h r) q
 
-pub held_used : (ns : List Node) (hs : List ℕ) (k : ℕ) → Counts ns hs → Held ns hs k → 0 < countAt ns k
+pub held_used : (ns : List Node) (hs : List ℕ) (k : ℕ) → Counts ns hs → Held ns hs k → 0 < count_at ns k
 held_used ns hs k counts h = reached_used ns hs counts h.0 k h.1 h.2

@@ -3,7 +3,7 @@ use Rattle.std.proofs.Common.{◌≡◌, ℕ, zero, suc, ◌+◌, ◌-◌, ◌<�
 use Rattle.std.proofs.lemmas.List.{at_drop_more, at_drop_all}
 use Rattle.std.proofs.lemmas.Bool.{cases_Bool, cases_lt, eq-eqb, ne_eqb, eqb-true, eqb-false, lt-ltb, le-ltb, ltb-true, true≢false}
 use Rattle.pool.specs.declared.node.Node.{Node}
-use Rattle.pool.specs.Memory.{Memory, countAt, start_at, run_at}
+use Rattle.pool.specs.Memory.{Memory, count_at, start_at, run_at}
 use Rattle.pool.specs.Finding.{lowest_free, meets, unused, lowest_run, find_run, Room, Lowest, LowestNode}
 
 -- ---- nodes
@@ -24,8 +24,8 @@ free_none ns i h = at_drop_all (λ l. lowest_free l i) ns i h
 
 -- the same of a list of which the first is number b
 NodeFrom : List Node → ℕ → Option ℕ → Type 0
-NodeFrom ns b None = (k : ℕ) → k < length ns → 0 < countAt ns k
-NodeFrom ns b (Some i) = (b ≤ i) × (i - b < length ns) × (countAt ns (i - b) ≡ 0) × ((k : ℕ) → k < i - b → 0 < countAt ns k)
+NodeFrom ns b None = (k : ℕ) → k < length ns → 0 < count_at ns k
+NodeFrom ns b (Some i) = (b ≤ i) × (i - b < length ns) × (count_at ns (i - b) ≡ 0) × ((k : ℕ) → k < i - b → 0 < count_at ns k)
 
 node_from : (ns : List Node) (b : ℕ) → NodeFrom ns b (lowest_free ns b)
 unfolding NodeFrom
@@ -33,19 +33,19 @@ node_from [] b = λ k h. absurd (omega arith)
 node_from (nd ∷ ns) b = go (eqb nd.count 0) refl (lowest_free ns (b + 1)) (node_from ns (b + 1))
   where
     next : (o : Option ℕ) → (0 < nd.count) → NodeFrom ns (b + 1) o → NodeFrom (nd ∷ ns) b o
-    next None u h = λ k l. elim k as (λ (j : ℕ). j < length (nd ∷ ns) → 0 < countAt (nd ∷ ns) j) [ zero ↦ λ m. u | suc j ↦ λ m. h j (omega arith) ] l
+    next None u h = λ k l. elim k as (λ (j : ℕ). j < length (nd ∷ ns) → 0 < count_at (nd ∷ ns) j) [ zero ↦ λ m. u | suc j ↦ λ m. h j (omega arith) ] l
     next (Some i) u h =
         let e : i - b ≡ suc (i - (b + 1)) = omega arith in (
           omega arith,
           omega arith,
-          ap (λ (j : ℕ). countAt (nd ∷ ns) j) e ∙ h.2,
-          λ k l. elim k as (λ (j : ℕ). j < i - b → 0 < countAt (nd ∷ ns) j) [ zero ↦ λ m. u | suc j ↦ λ m. h.3 j (omega arith) ] l,
+          ap (λ (j : ℕ). count_at (nd ∷ ns) j) e ∙ h.2,
+          λ k l. elim k as (λ (j : ℕ). j < i - b → 0 < count_at (nd ∷ ns) j) [ zero ↦ λ m. u | suc j ↦ λ m. h.3 j (omega arith) ] l,
         )
 
     go : (t : Bool) → eqb nd.count 0 ≡ t → (o : Option ℕ) → NodeFrom ns (b + 1) o → NodeFrom (nd ∷ ns) b (elim t [ true ↦ Some b | false ↦ o ])
     go true e o h =
         let z : b - b ≡ 0 = omega arith in
-        (omega arith, omega arith, ap (λ (j : ℕ). countAt (nd ∷ ns) j) z ∙ eqb-true nd.count 0 e, λ k l. absurd (omega arith))
+        (omega arith, omega arith, ap (λ (j : ℕ). count_at (nd ∷ ns) j) z ∙ eqb-true nd.count 0 e, λ k l. absurd (omega arith))
     go false e o h = next o (let q = eqb-false nd.count 0 e in omega arith) h
 
 pub lowest_free_is : (ns : List Node) → LowestNode ns (lowest_free ns 0)
@@ -56,7 +56,7 @@ lowest_free_is ns = go (lowest_free ns 0) (node_from ns 0)
     go None h = h
     go (Some i) h =
         let z : i - 0 ≡ i = omega arith in
-        (omega arith, ap (λ (j : ℕ). countAt ns j) (sym z) ∙ h.2, λ k l. h.3 k (omega arith))
+        (omega arith, ap (λ (j : ℕ). count_at ns j) (sym z) ∙ h.2, λ k l. h.3 k (omega arith))
 
 -- ---- runs
 -- one of the n words from `at` on is in the run

@@ -3,7 +3,7 @@ use Rattle.std.proofs.Common.{◌≡◌, ℕ, zero, suc, ◌+◌, ◌-◌, ◌<�
 use Rattle.std.proofs.lemmas.List.{length-set, length-take, length-take-le, length-drop, length-append, take-append-drop, take_at, drop_at, get_or-set_same, get_or-set_other, get_or_append_left, get_or-append_right, get_or-take, get_or-drop, ext_get_or}
 use Rattle.std.proofs.lemmas.Bool.{cases_lt, cases_eq, eq-eqb, ne_eqb, lt-ltb, le-ltb, cond-true, cond-false}
 use Rattle.pool.specs.declared.node.Node.{Node}
-use Rattle.pool.specs.Memory.{Memory, blank, no_slots, countAt, slotsAt, start_at, run_at, with_count, part, overwritten}
+use Rattle.pool.specs.Memory.{Memory, blank, no_slots, count_at, slots_at, start_at, run_at, with_count, part, overwritten}
 use Rattle.pool.specs.Counts.{names, times, names_of, named, Counts, Heights, tallest, Reaches, here, step}
 use Rattle.pool.specs.Order.{Low, Eight, Within, Apart, Slotless, Freed, Cleared, Ordered, Keeps, Change}
 use Rattle.pool.specs.Finding.{Room}
@@ -81,7 +81,7 @@ names_free : (k : ℕ) (nd : Node) → nd.count ≡ 0 → names_of k nd ≡ 0
 names_free k nd h = cond-false (ltb 0 nd.count) (times k (names nd.slots)) 0 (le-ltb 0 nd.count (omega arith))
 
 -- what a holder reaches is in use
-reached_used : (ns : List Node) (hs : List ℕ) → Counts ns hs → (a k : ℕ) → 0 < times a hs → Reaches ns a k → 0 < countAt ns k
+reached_used : (ns : List Node) (hs : List ℕ) → Counts ns hs → (a k : ℕ) → 0 < times a hs → Reaches ns a k → 0 < count_at ns k
 reached_used ns hs counts a k h here = omega (arith, counts a)
 reached_used ns hs counts a k h (step {b} r c l) =
     let u = reached_used ns hs counts a b h r in
@@ -112,7 +112,7 @@ abbrev pub placed : Memory → ℕ → ℕ → ℕ → Node → List ℕ → Mem
 placed m i s w nd xs = record { nodes = set m.nodes i nd; words = overwritten m.words s w xs }
 
 module _ (m : Memory) (hs : List ℕ) (i s w : ℕ) (nd : Node) (xs : List ℕ)
-    (o : Ordered m hs) (inside : i < length m.nodes) (free : countAt m.nodes i ≡ 0) (room : Room m w s)
+    (o : Ordered m hs) (inside : i < length m.nodes) (free : count_at m.nodes i ≡ 0) (room : Room m w s)
     (one : nd.count ≡ 1) (low : nd.height ≡ 1) (bare : nd.slots ≡ no_slots) (at : nd.start ≡ s) (long : nd.run ≡ w) (whole : length xs ≡ w) where
   at_place : (k : ℕ) → Put m.nodes i nd k
   at_place k = put_at m.nodes i nd inside k
@@ -130,25 +130,25 @@ module _ (m : Memory) (hs : List ℕ) (i s w : ℕ) (nd : Node) (xs : List ℕ)
       let c = names_used k nd (omega arith) ∙ bare_names k in
       let d = o.counts k in
       ⊎_elim
-      (λ q. omega (arith, a, b, c, d, ap (λ (x : Node). x.count) q.1, ap (λ (j : ℕ). countAt m.nodes j) q.0, cond-true {A = ℕ} (eqb i k) 1 0 (eq-eqb i k (sym q.0))))
+      (λ q. omega (arith, a, b, c, d, ap (λ (x : Node). x.count) q.1, ap (λ (j : ℕ). count_at m.nodes j) q.0, cond-true {A = ℕ} (eqb i k) 1 0 (eq-eqb i k (sym q.0))))
       (λ q. omega (arith, a, b, c, d, ap (λ (x : Node). x.count) q.1, cond-false {A = ℕ} (eqb i k) 1 0 (ne_eqb i k (λ e. q.0 (sym e)))))
       (at_place k)
 
   -- nothing in use names a free node
-  not_named : (k : ℕ) → 0 < countAt m.nodes k → times i (names (slotsAt m.nodes k)) ≡ 0
+  not_named : (k : ℕ) → 0 < count_at m.nodes k → times i (names (slots_at m.nodes k)) ≡ 0
   not_named k u = omega (arith, o.counts i, named_at i m.nodes k, names_used i (get_or m.nodes k blank) u)
 
   placed_heights : Heights (set m.nodes i nd)
   placed_heights k u =
       ⊎_elim
       (λ q.
-      let a : tallest (set m.nodes i nd) (slotsAt (set m.nodes i nd) k) ≡ 0
+      let a : tallest (set m.nodes i nd) (slots_at (set m.nodes i nd) k) ≡ 0
       = ap (λ (x : Node). tallest (set m.nodes i nd) x.slots) q.1 ∙ ap (λ (ss : List (Option ℕ)). tallest (set m.nodes i nd) ss) bare in
       omega (arith, a, ap (λ (x : Node). x.height) q.1))
       (λ q.
-      let v : 0 < countAt m.nodes k = omega (arith, u, ap (λ (x : Node). x.count) q.1) in
-      let a : tallest (set m.nodes i nd) (slotsAt (set m.nodes i nd) k) ≡ tallest m.nodes (slotsAt m.nodes k)
-      = ap (λ (x : Node). tallest (set m.nodes i nd) x.slots) q.1 ∙ tallest_same m.nodes i nd (slotsAt m.nodes k) (not_named k v) in
+      let v : 0 < count_at m.nodes k = omega (arith, u, ap (λ (x : Node). x.count) q.1) in
+      let a : tallest (set m.nodes i nd) (slots_at (set m.nodes i nd) k) ≡ tallest m.nodes (slots_at m.nodes k)
+      = ap (λ (x : Node). tallest (set m.nodes i nd) x.slots) q.1 ∙ tallest_same m.nodes i nd (slots_at m.nodes k) (not_named k v) in
       omega (arith, a, ap (λ (x : Node). x.height) q.1, o.heights k v))
       (at_place k)
 
@@ -244,7 +244,7 @@ module _ (m : Memory) (hs : List ℕ) (i s w : ℕ) (nd : Node) (xs : List ℕ)
   placed_keeps k h =
       let u = reached_used m.nodes hs o.counts h.0 k h.1 h.2 in
       ⊎_elim
-      (λ q. absurd (omega (arith, u, free, ap (λ (j : ℕ). countAt m.nodes j) q.0)))
+      (λ q. absurd (omega (arith, u, free, ap (λ (j : ℕ). count_at m.nodes j) q.0)))
       (λ q. record {
         same_node = q.1 ∙ ap (λ (c : ℕ). with_count (get_or m.nodes k blank) c) (sym (ap (λ (x : Node). x.count) q.1));
         same_run =

@@ -2,7 +2,7 @@
 use Rattle.std.proofs.Common.{ℕ, zero, suc, ◌+◌, ◌<◌, ◌≤◌, max, List, [], ◌∷◌, get_or, ⊎_elim, arith}
 use Rattle.std.proofs.lemmas.Bool.{cases_lt}
 use Rattle.pool.specs.declared.node.Node.{Node}
-use Rattle.pool.specs.Memory.{blank, countAt, heightAt}
+use Rattle.pool.specs.Memory.{blank, count_at, height_at}
 use Rattle.pool.specs.Counts.{times, Counts, Falling, here, step, Held, Exact}
 use Rattle.pool.proofs.Counted.{named_by, names_used, names_use, held_used}
 
@@ -11,7 +11,7 @@ top : List Node → ℕ
 top [] = 1
 top (nd ∷ ns) = max (suc nd.height) (top ns)
 
-height_top : (ns : List Node) (k : ℕ) → heightAt ns k < top ns
+height_top : (ns : List Node) (k : ℕ) → height_at ns k < top ns
 unfolding top
 height_top [] k = omega arith
 height_top (nd ∷ ns) zero = omega arith
@@ -19,7 +19,7 @@ height_top (nd ∷ ns) (suc k) = omega (arith, height_top ns k)
 
 module _ (ns : List Node) (hs : List ℕ) (counts : Counts ns hs) (falling : Falling ns) where
   -- d is what is left above k's height
-  climb : (d k : ℕ) → top ns ≤ heightAt ns k + d → 0 < countAt ns k → Held ns hs k
+  climb : (d k : ℕ) → top ns ≤ height_at ns k + d → 0 < count_at ns k → Held ns hs k
   climb zero k l u = absurd (omega (arith, height_top ns k))
   climb (suc d) k l u =
       ⊎_elim

@@ -2,7 +2,7 @@
 use Rattle.std.proofs.Common.{◌≡◌, ℕ, zero, suc, ◌-◌, ◌<◌, ◌≤◌, Bool, true, false, List, [], ◌∷◌, ◌++◌, Some, None, Option, sym, refl, ap, ◌∙◌, subst, ⊎_elim, arith}
 use Rattle.std.proofs.lemmas.Bool.{cases_eq, cases_lt, eq-eqb, ne_eqb}
 use Rattle.pool.specs.declared.node.Node.{Node}
-use Rattle.pool.specs.Memory.{Memory, node_at, countAt, heightAt, slotsAt}
+use Rattle.pool.specs.Memory.{Memory, node_at, count_at, height_at, slots_at}
 use Rattle.pool.specs.Counts.{names, Counts, tallest, Falling, Owed, OwedAll}
 use Rattle.pool.specs.Order.{Within, Ordered, SameAt, Change}
 use Rattle.pool.specs.Sharing.{recounted, vacated, each_slot, released, release}
@@ -10,15 +10,15 @@ use Rattle.pool.proofs.Counted.{owed_used, owed_in, less_counts, free_counts, he
 use Rattle.pool.proofs.Spared.{Spared, spared_refl, spared_trans, spared_within, spared_same, spared_keeps, spared_ordered, kept_height, kept_falling, recount_spared, vacate_spared}
 
 -- ---- one step of `released`
-pub released_last : (f : ℕ) (m : Memory) (n : ℕ) → countAt m.nodes n ≡ 1 → released (suc f) m n ≡ each_slot (released f) (vacated m n) (slotsAt m.nodes n)
+pub released_last : (f : ℕ) (m : Memory) (n : ℕ) → count_at m.nodes n ≡ 1 → released (suc f) m n ≡ each_slot (released f) (vacated m n) (slots_at m.nodes n)
 unfolding released
 released_last f m n e =
-    ap (λ (b : Bool). elim b [ true ↦ each_slot (released f) (vacated m n) (slotsAt m.nodes n) | false ↦ recounted m n (countAt m.nodes n - 1) ]) (eq-eqb (countAt m.nodes n) 1 e)
+    ap (λ (b : Bool). elim b [ true ↦ each_slot (released f) (vacated m n) (slots_at m.nodes n) | false ↦ recounted m n (count_at m.nodes n - 1) ]) (eq-eqb (count_at m.nodes n) 1 e)
 
-pub released_less : (f : ℕ) (m : Memory) (n : ℕ) → (countAt m.nodes n ≡ 1 → ⊥) → released (suc f) m n ≡ recounted m n (countAt m.nodes n - 1)
+pub released_less : (f : ℕ) (m : Memory) (n : ℕ) → (count_at m.nodes n ≡ 1 → ⊥) → released (suc f) m n ≡ recounted m n (count_at m.nodes n - 1)
 unfolding released
 released_less f m n e =
-    ap (λ (b : Bool). elim b [ true ↦ each_slot (released f) (vacated m n) (slotsAt m.nodes n) | false ↦ recounted m n (countAt m.nodes n - 1) ]) (ne_eqb (countAt m.nodes n) 1 e)
+    ap (λ (b : Bool). elim b [ true ↦ each_slot (released f) (vacated m n) (slots_at m.nodes n) | false ↦ recounted m n (count_at m.nodes n - 1) ]) (ne_eqb (count_at m.nodes n) 1 e)
 
 -- ---- what a release needs, and what it owes
 pub record Sound (m : Memory) (hs : List ℕ) : Type 0 where
@@ -34,7 +34,7 @@ pub spared_sound : (a b : Memory) (hs hs' : List ℕ) → Sound a hs → Spared 
 spared_sound a b hs hs' s p counts =
     record { counts = counts; falling = kept_falling a.nodes b.nodes p.kept s.falling; within = spared_within a b p s.within }
 
-pub spared_height : (a b : Memory) → Spared a b → (k : ℕ) → heightAt b.nodes k ≤ heightAt a.nodes k
+pub spared_height : (a b : Memory) → Spared a b → (k : ℕ) → height_at b.nodes k ≤ height_at a.nodes k
 spared_height a b p k = kept_height (node_at a k) (node_at b k) (p.kept k)
 
 pub spared_above : (a b : Memory) → Spared a b → (ss : List (Option ℕ)) → above b.nodes ss ≤ above a.nodes ss
@@ -45,30 +45,30 @@ good_trans a b c hs hs' p q = record { sound = q.sound; spared = spared_trans a 
 
 module _ (m : Memory) (n : ℕ) (hs : List ℕ) (s : Sound m (n ∷ hs)) where
   -- others still hold it
-  pub less_good : (countAt m.nodes n ≡ 1 → ⊥) → Good m (recounted m n (countAt m.nodes n - 1)) hs
+  pub less_good : (count_at m.nodes n ≡ 1 → ⊥) → Good m (recounted m n (count_at m.nodes n - 1)) hs
   less_good ne =
       let u = owed_used m.nodes n hs s.counts in
-      let p = recount_spared m n (countAt m.nodes n - 1) u (omega arith) in
+      let p = recount_spared m n (count_at m.nodes n - 1) u (omega arith) in
       record {
-        sound = spared_sound m (recounted m n (countAt m.nodes n - 1)) (n ∷ hs) hs s p (less_counts m.nodes n hs s.counts (countAt m.nodes n - 1) (omega arith) (omega arith));
+        sound = spared_sound m (recounted m n (count_at m.nodes n - 1)) (n ∷ hs) hs s p (less_counts m.nodes n hs s.counts (count_at m.nodes n - 1) (omega arith) (omega arith));
         spared = p;
       }
 
   -- the last one has gone, and what the slots name is still held
-  pub last_good : countAt m.nodes n ≡ 1 → Good m (vacated m n) (names (slotsAt m.nodes n) ++ hs)
+  pub last_good : count_at m.nodes n ≡ 1 → Good m (vacated m n) (names (slots_at m.nodes n) ++ hs)
   last_good e =
       let p = vacate_spared m n (owed_in m.nodes n hs s.counts) (s.within n) in
       record {
-        sound = spared_sound m (vacated m n) (n ∷ hs) (names (slotsAt m.nodes n) ++ hs) s p (free_counts m.nodes n hs s.counts e);
+        sound = spared_sound m (vacated m n) (n ∷ hs) (names (slots_at m.nodes n) ++ hs) s p (free_counts m.nodes n hs s.counts e);
         spared = p;
       }
 
-  pub last_low : countAt m.nodes n ≡ 1 → above (vacated m n).nodes (slotsAt m.nodes n) ≤ heightAt m.nodes n
+  pub last_low : count_at m.nodes n ≡ 1 → above (vacated m n).nodes (slots_at m.nodes n) ≤ height_at m.nodes n
   last_low e =
-      omega (arith, spared_above m (vacated m n) (last_good e).spared (slotsAt m.nodes n), above_slots m.nodes n s.falling (owed_used m.nodes n hs s.counts))
+      omega (arith, spared_above m (vacated m n) (last_good e).spared (slots_at m.nodes n), above_slots m.nodes n s.falling (owed_used m.nodes n hs s.counts))
 
 abbrev pub Releases : ℕ → Type 0
-Releases f = (m : Memory) (n : ℕ) (hs : List ℕ) → Sound m (n ∷ hs) → heightAt m.nodes n < f → Good m (released f m n) hs
+Releases f = (m : Memory) (n : ℕ) (hs : List ℕ) → Sound m (n ∷ hs) → height_at m.nodes n < f → Good m (released f m n) hs
 
 pub slots_good : (f : ℕ) → Releases f → (m : Memory) (ss : List (Option ℕ)) (hs : List ℕ) → Sound m (names ss ++ hs) → above m.nodes ss ≤ f → Good m (each_slot (released f) m ss) hs
 slots_good f r m [] hs s t = record { sound = s; spared = spared_refl m }
@@ -86,20 +86,20 @@ released_good (suc f) m n hs s t =
     (λ e.
     let v : Memory = vacated m n in
     let p = last_good m n hs s e in
-    let q = slots_good f (released_good f) v (slotsAt m.nodes n) hs p.sound (omega (arith, last_low m n hs s e)) in
+    let q = slots_good f (released_good f) v (slots_at m.nodes n) hs p.sound (omega (arith, last_low m n hs s e)) in
     subst (λ (b : Memory). Good m b hs) (sym (released_last f m n e))
-    (good_trans m v (each_slot (released f) v (slotsAt m.nodes n)) (names (slotsAt m.nodes n) ++ hs) hs p q))
+    (good_trans m v (each_slot (released f) v (slots_at m.nodes n)) (names (slots_at m.nodes n) ++ hs) hs p q))
     (λ e. subst (λ (b : Memory). Good m b hs) (sym (released_less f m n e)) (less_good m n hs s e))
-    (cases_eq (countAt m.nodes n) 1)
+    (cases_eq (count_at m.nodes n) 1)
 
 -- ---- one holder of n less, in a pool in order
 pub ordered_sound : (m : Memory) (hs : List ℕ) → Ordered m hs → Sound m hs
 ordered_sound m hs o = record { counts = o.counts; falling = heights_falling m.nodes hs o.counts o.heights; within = o.within }
 
 pub release_good : (m : Memory) (n : ℕ) (hs : List ℕ) → Ordered m (n ∷ hs) → Good m (release m n) hs
-release_good m n hs o = released_good (suc (heightAt m.nodes n)) m n hs (ordered_sound m (n ∷ hs) o) (omega arith)
+release_good m n hs o = released_good (suc (height_at m.nodes n)) m n hs (ordered_sound m (n ∷ hs) o) (omega arith)
 
-pub release_kept : (m : Memory) (n : ℕ) (hs : List ℕ) → Ordered m (n ∷ hs) → (k : ℕ) → 0 < countAt (release m n).nodes k → SameAt m (release m n) k
+pub release_kept : (m : Memory) (n : ℕ) (hs : List ℕ) → Ordered m (n ∷ hs) → (k : ℕ) → 0 < count_at (release m n).nodes k → SameAt m (release m n) k
 release_kept m n hs o k u = spared_same m (release m n) (release_good m n hs o).spared o.apart k u
 
 pub release_change : (m : Memory) (n : ℕ) (hs : List ℕ) → Ordered m (n ∷ hs) → Change m (release m n) hs hs
@@ -122,12 +122,12 @@ module _ (m : Memory) (n : ℕ) (owed : Owed m.nodes n) (falling : Falling m.nod
   code_sound = record { counts = owed.1; falling = falling; within = within }
 
   -- b is what the slots' release gave
-  pub code_last : (b : Memory) → countAt m.nodes n ≡ 1
-      → ((f : ℕ) → tallest (vacated m n).nodes (slotsAt m.nodes n) < f → b ≡ each_slot (released f) (vacated m n) (slotsAt m.nodes n))
-      → (f : ℕ) → heightAt m.nodes n < f → b ≡ released f m n
+  pub code_last : (b : Memory) → count_at m.nodes n ≡ 1
+      → ((f : ℕ) → tallest (vacated m n).nodes (slots_at m.nodes n) < f → b ≡ each_slot (released f) (vacated m n) (slots_at m.nodes n))
+      → (f : ℕ) → height_at m.nodes n < f → b ≡ released f m n
   code_last b e r zero h = absurd (omega arith)
   code_last b e r (suc f) h =
-      let ss : List (Option ℕ) = slotsAt m.nodes n in
+      let ss : List (Option ℕ) = slots_at m.nodes n in
       let v : Memory = vacated m n in
       let low = last_low m n owed.0 code_sound e in
       ⊎_elim
@@ -139,7 +139,7 @@ module _ (m : Memory) (n : ℕ) (owed : Owed m.nodes n) (falling : Falling m.nod
       (cases_lt 0 f)
       ∙ sym (released_last f m n e)
 
-  pub code_less : (countAt m.nodes n ≡ 1 → ⊥) → (f : ℕ) → heightAt m.nodes n < f → recounted m n (countAt m.nodes n - 1) ≡ released f m n
+  pub code_less : (count_at m.nodes n ≡ 1 → ⊥) → (f : ℕ) → height_at m.nodes n < f → recounted m n (count_at m.nodes n - 1) ≡ released f m n
   code_less ne zero h = absurd (omega arith)
   code_less ne (suc f) h = sym (released_less f m n ne)
 
@@ -161,12 +161,12 @@ module _ (entry m : Memory) (all rest : List (Option ℕ)) (c : ℕ) (l : Left e
   pub slot_owed : Owed m.nodes c
   slot_owed = (names rest ++ l.owed.0, l.owed.1)
 
-  pub slot_low : heightAt m.nodes c < above entry.nodes all
+  pub slot_low : height_at m.nodes c < above entry.nodes all
   slot_low = omega (arith, l.low)
 
-  pub left_some : (b : Memory) → ((f : ℕ) → heightAt m.nodes c < f → b ≡ released f m c) → Left entry b all rest
+  pub left_some : (b : Memory) → ((f : ℕ) → height_at m.nodes c < f → b ≡ released f m c) → Left entry b all rest
   left_some b r =
-      let f₀ : ℕ = suc (heightAt m.nodes c) in
+      let f₀ : ℕ = suc (height_at m.nodes c) in
       let hs : List ℕ = names rest ++ l.owed.0 in
       let g = released_good f₀ m c hs (record { counts = l.owed.1; falling = l.falling; within = l.within }) (omega arith) in
       let d : Good m b hs = subst (λ (x : Memory). Good m x hs) (sym (r f₀ (omega arith))) g in

@@ -3,7 +3,7 @@ use Rattle.std.proofs.Common.{◌≡◌, ℕ, ◌+◌, ◌-◌, ◌<◌, ◌≤�
 use Rattle.std.proofs.lemmas.List.{length-set, length-take, length-drop, length-append, length-replicate, length-take-le, get_or-take, get_or-drop, get_or_append_left, get_or-append_right, get_or-replicate, ext_get_or}
 use Rattle.std.proofs.lemmas.Bool.{cases_lt}
 use Rattle.pool.specs.declared.node.Node.{Node}
-use Rattle.pool.specs.Memory.{Memory, blank, free_node, node_at, countAt, heightAt, slotsAt, start_at, run_at, with_count, part, overwritten}
+use Rattle.pool.specs.Memory.{Memory, blank, free_node, node_at, count_at, height_at, slots_at, start_at, run_at, with_count, part, overwritten}
 use Rattle.pool.specs.Counts.{names, times, Counts, tallest, Heights, Falling, Reaches, here, step}
 use Rattle.pool.specs.Order.{Within, Apart, Cleared, Ordered, SameAt, Keeps, Change}
 use Rattle.pool.specs.Sharing.{recounted, retained, vacated}
@@ -149,7 +149,7 @@ module _ (a b : Memory) (s : Spared a b) where
       }
 
   -- one in use is as it was, and so is its run
-  pub spared_same : Apart a.nodes → (k : ℕ) → 0 < countAt b.nodes k → SameAt a b k
+  pub spared_same : Apart a.nodes → (k : ℕ) → 0 < count_at b.nodes k → SameAt a b k
   spared_same p k u =
       let e = (kept_used (node_at a k) (node_at b k) (s.kept k) u).1 in
       let q : start_at b.nodes k ≡ start_at a.nodes k = ap (λ (nd : Node). nd.start) e in
@@ -163,7 +163,7 @@ module _ (a b : Memory) (s : Spared a b) where
 
   -- what the holders reach is in use
   module _ (hs hs' : List ℕ) (counts : Counts b.nodes hs') (more : (k : ℕ) → 0 < times k hs → 0 < times k hs') where
-    still_used : (h k : ℕ) → 0 < times h hs → Reaches a.nodes h k → 0 < countAt b.nodes k
+    still_used : (h k : ℕ) → 0 < times h hs → Reaches a.nodes h k → 0 < count_at b.nodes k
     still_used h k q here = omega (arith, counts h, more h q)
     still_used h k q (step {b = j} r c i) =
         let u = still_used h j q r in
@@ -177,19 +177,19 @@ module _ (a b : Memory) (s : Spared a b) where
   spared_heights : (hs : List ℕ) → Counts b.nodes hs → Heights a.nodes → Heights b.nodes
   spared_heights hs counts heights k u =
       let e = kept_used (node_at a k) (node_at b k) (s.kept k) u in
-      let h : heightAt b.nodes k ≡ heightAt a.nodes k = ap (λ (nd : Node). nd.height) e.1 in
-      let ss : tallest b.nodes (slotsAt b.nodes k) ≡ tallest b.nodes (slotsAt a.nodes k) = ap (λ (nd : Node). tallest b.nodes nd.slots) e.1 in
-      let t = tallest_same a.nodes b.nodes (slotsAt a.nodes k)
+      let h : height_at b.nodes k ≡ height_at a.nodes k = ap (λ (nd : Node). nd.height) e.1 in
+      let ss : tallest b.nodes (slots_at b.nodes k) ≡ tallest b.nodes (slots_at a.nodes k) = ap (λ (nd : Node). tallest b.nodes nd.slots) e.1 in
+      let t = tallest_same a.nodes b.nodes (slots_at a.nodes k)
       (λ c i.
       let v = named_used b.nodes hs counts k c u (subst (λ (n : ℕ). 0 < n) (sym (ap (λ (nd : Node). times c (names nd.slots)) e.1)) i) in
       ap (λ (nd : Node). nd.height) (kept_used (node_at a c) (node_at b c) (s.kept c) v).1) in
       omega (arith, heights k e.0, h, ss, t)
 
-  eight_at : (k : ℕ) → KeptAt (node_at a k) (node_at b k) → length (slotsAt a.nodes k) ≡ 8 → length (slotsAt b.nodes k) ≡ 8
+  eight_at : (k : ℕ) → KeptAt (node_at a k) (node_at b k) → length (slots_at a.nodes k) ≡ 8 → length (slots_at b.nodes k) ≡ 8
   eight_at k (same e u v) l = ap (λ (nd : Node). length nd.slots) e ∙ l
   eight_at k (gone e) l = ap (λ (nd : Node). length nd.slots) e
 
-  freed_at : (k : ℕ) → KeptAt (node_at a k) (node_at b k) → (countAt a.nodes k ≡ 0 → node_at a k ≡ free_node) → countAt b.nodes k ≡ 0 → node_at b k ≡ free_node
+  freed_at : (k : ℕ) → KeptAt (node_at a k) (node_at b k) → (count_at a.nodes k ≡ 0 → node_at a k ≡ free_node) → count_at b.nodes k ≡ 0 → node_at b k ≡ free_node
   freed_at k (same e u v) f z = e ∙ ap₂ (λ (nd : Node) (c : ℕ). with_count nd c) (f (u z)) z
   freed_at k (gone e) f z = e
 
@@ -212,22 +212,22 @@ module _ (a b : Memory) (s : Spared a b) where
       }
 
 -- ---- another count, where neither is 0
-pub recount_spared : (m : Memory) (n c : ℕ) → 0 < countAt m.nodes n → 0 < c → Spared m (recounted m n c)
+pub recount_spared : (m : Memory) (n c : ℕ) → 0 < count_at m.nodes n → 0 < c → Spared m (recounted m n c)
 recount_spared m n c u v =
     let nd : Node = with_count (node_at m n) c in
     let l = in_range m.nodes n u in
     let q : Memory = recounted m n c in
-    let at : (k : ℕ) → (node_at q k ≡ with_count (node_at m k) (countAt q.nodes k)) × KeptAt (node_at m k) (node_at q k)
+    let at : (k : ℕ) → (node_at q k ≡ with_count (node_at m k) (count_at q.nodes k)) × KeptAt (node_at m k) (node_at q k)
     = λ k.
     ⊎_elim
     (λ p.
     let e : node_at q k ≡ with_count (node_at m k) c = p.1 ∙ ap (λ (j : ℕ). with_count (node_at m j) c) (sym p.0) in
-    let d : countAt q.nodes k ≡ c = ap (λ (x : Node). x.count) e in
-    let w : countAt m.nodes k ≡ countAt m.nodes n = ap (λ (j : ℕ). countAt m.nodes j) p.0 in
-    let f : node_at q k ≡ with_count (node_at m k) (countAt q.nodes k) = e ∙ ap (λ (j : ℕ). with_count (node_at m k) j) (sym d) in
+    let d : count_at q.nodes k ≡ c = ap (λ (x : Node). x.count) e in
+    let w : count_at m.nodes k ≡ count_at m.nodes n = ap (λ (j : ℕ). count_at m.nodes j) p.0 in
+    let f : node_at q k ≡ with_count (node_at m k) (count_at q.nodes k) = e ∙ ap (λ (j : ℕ). with_count (node_at m k) j) (sym d) in
     (f, same f (λ z. absurd (omega (arith, z, d))) (λ z. absurd (omega (arith, z, w)))))
     (λ p.
-    let f : node_at q k ≡ with_count (node_at m k) (countAt q.nodes k) = p.1 ∙ ap (λ (j : ℕ). with_count (node_at m k) j) (sym (ap (λ (x : Node). x.count) p.1)) in
+    let f : node_at q k ≡ with_count (node_at m k) (count_at q.nodes k) = p.1 ∙ ap (λ (j : ℕ). with_count (node_at m k) j) (sym (ap (λ (x : Node). x.count) p.1)) in
     (f, kept_eq (node_at m k) (node_at q k) p.1))
     (set_cases m.nodes n nd l k) in
     record {
@@ -242,9 +242,9 @@ recount_spared m n c u v =
           (omega (arith, ap (λ (x : Node). x.start) (at k).0, ap (λ (x : Node). x.run) (at k).0)));
     }
 
-pub retained_change : (m : Memory) (n : ℕ) (hs : List ℕ) → Ordered m hs → 0 < countAt m.nodes n → Change m (retained m n) (n ∷ hs) hs
+pub retained_change : (m : Memory) (n : ℕ) (hs : List ℕ) → Ordered m hs → 0 < count_at m.nodes n → Change m (retained m n) (n ∷ hs) hs
 retained_change m n hs o u =
-    let s = recount_spared m n (countAt m.nodes n + 1) u (omega arith) in
+    let s = recount_spared m n (count_at m.nodes n + 1) u (omega arith) in
     let counts = more_counts m.nodes n hs u o.counts in
     record {
       ordered = spared_ordered m (retained m n) s hs (n ∷ hs) o counts;

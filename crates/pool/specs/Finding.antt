@@ -1,7 +1,7 @@
 -- The lowest free node, and the lowest run of unused words.
 use Rattle.std.specs.Prelude.{◌≡◌, ℕ, zero, suc, ◌+◌, ◌-◌, ◌<◌, ◌≤◌, min, max, Bool, true, false, List, [], ◌∷◌, length, Some, None, Option, ◌==◌, nat_lt}
 use Rattle.pool.specs.declared.node.Node.{Node}
-use Rattle.pool.specs.Memory.{Memory, countAt, start_at, run_at}
+use Rattle.pool.specs.Memory.{Memory, count_at, start_at, run_at}
 
 -- the first node that is not in use; the list's first is number i
 abbrev pub lowest_free : List Node → ℕ → Option ℕ
@@ -38,5 +38,5 @@ Lowest m n (Some s) = Room m n s × ((t : ℕ) → t < s → Room m n t → ⊥)
 
 -- The answer of a search for a node: the lowest that is not in use, or none where all are.
 abbrev pub LowestNode : List Node → Option ℕ → Type 0
-LowestNode ns None = (k : ℕ) → k < length ns → 0 < countAt ns k
-LowestNode ns (Some i) = (i < length ns) × (countAt ns i ≡ 0) × ((k : ℕ) → k < i → 0 < countAt ns k)
+LowestNode ns None = (k : ℕ) → k < length ns → 0 < count_at ns k
+LowestNode ns (Some i) = (i < length ns) × (count_at ns i ≡ 0) × ((k : ℕ) → k < i → 0 < count_at ns k)

@@ -24,14 +24,14 @@ empty_memory = record { nodes = replicate 256 free_node; words = replicate 8192 
 abbrev pub node_at : Memory → ℕ → Node
 node_at m k = slice_index_or m.nodes k blank
 
-abbrev pub countAt : List Node → ℕ → ℕ
-countAt ns k = (get_or ns k blank).count
+abbrev pub count_at : List Node → ℕ → ℕ
+count_at ns k = (get_or ns k blank).count
 
-abbrev pub heightAt : List Node → ℕ → ℕ
-heightAt ns k = (get_or ns k blank).height
+abbrev pub height_at : List Node → ℕ → ℕ
+height_at ns k = (get_or ns k blank).height
 
-abbrev pub slotsAt : List Node → ℕ → List (Option ℕ)
-slotsAt ns k = (get_or ns k blank).slots
+abbrev pub slots_at : List Node → ℕ → List (Option ℕ)
+slots_at ns k = (get_or ns k blank).slots
 
 abbrev pub start_at : List Node → ℕ → ℕ
 start_at ns k = (get_or ns k blank).start

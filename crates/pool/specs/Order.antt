@@ -1,16 +1,16 @@
 -- A pool in order, whoever holds; and what a change of it keeps.
 use Rattle.std.specs.Prelude.{◌≡◌, ℕ, ◌+◌, ◌<◌, ◌≤◌, List, length, ◌≢◌, slice_index, slice_index_or}
 use Rattle.pool.specs.declared.node.Node.{Node}
-use Rattle.pool.specs.Memory.{Memory, blank, free_node, node_at, countAt, heightAt, slotsAt, start_at, run_at, with_count, run_of}
+use Rattle.pool.specs.Memory.{Memory, blank, free_node, node_at, count_at, height_at, slots_at, start_at, run_at, with_count, run_of}
 use Rattle.pool.specs.Counts.{names, times, Counts, Heights, Held}
 
 -- no height above 32
 abbrev pub Low : List Node → Type 0
-Low ns = (k : ℕ) → heightAt ns k ≤ 32
+Low ns = (k : ℕ) → height_at ns k ≤ 32
 
 -- room for eight slots at every node
 abbrev pub Eight : List Node → Type 0
-Eight ns = (k : ℕ) → k < length ns → length (slotsAt ns k) ≡ 8
+Eight ns = (k : ℕ) → k < length ns → length (slots_at ns k) ≡ 8
 
 -- every run lies within the words
 abbrev pub Within : List Node → List ℕ → Type 0
@@ -22,11 +22,11 @@ Apart ns = (j k : ℕ) → (j ≢ k) → 0 < run_at ns j → 0 < run_at ns k →
 
 -- a node with a run has no slots
 abbrev pub Slotless : List Node → Type 0
-Slotless ns = (k c : ℕ) → 0 < run_at ns k → times c (names (slotsAt ns k)) ≡ 0
+Slotless ns = (k c : ℕ) → 0 < run_at ns k → times c (names (slots_at ns k)) ≡ 0
 
 -- what is not in use is the free node
 abbrev pub Freed : List Node → Type 0
-Freed ns = (k : ℕ) → k < length ns → countAt ns k ≡ 0 → slice_index_or ns k blank ≡ free_node
+Freed ns = (k : ℕ) → k < length ns → count_at ns k ≡ 0 → slice_index_or ns k blank ≡ free_node
 
 -- a word that no run has is 0
 abbrev pub Cleared : List Node → List ℕ → Type 0
@@ -47,7 +47,7 @@ pub record Ordered (m : Memory) (hs : List ℕ) : Type 0 where
 
 -- k is in q as it was in m, but for its count; and so is its run of words
 pub record SameAt (m q : Memory) (k : ℕ) : Type 0 where
-  pub same_node : node_at q k ≡ with_count (node_at m k) (countAt q.nodes k)
+  pub same_node : node_at q k ≡ with_count (node_at m k) (count_at q.nodes k)
   pub same_run : run_of q k ≡ run_of m k
 
 -- all that the holders reach is as it was

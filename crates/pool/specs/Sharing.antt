@@ -1,6 +1,6 @@
 -- One holder more, and one holder less.
 use Rattle.std.specs.Prelude.{ℕ, zero, suc, ◌+◌, ◌-◌, true, false, List, [], ◌∷◌, replicate, Some, None, Option, ◌==◌, slice_set}
-use Rattle.pool.specs.Memory.{Memory, free_node, node_at, countAt, heightAt, slotsAt, start_at, run_at, with_count, put_node, overwritten}
+use Rattle.pool.specs.Memory.{Memory, free_node, node_at, count_at, height_at, slots_at, start_at, run_at, with_count, put_node, overwritten}
 
 -- k with another count
 abbrev pub recounted : Memory → ℕ → ℕ → Memory
@@ -8,7 +8,7 @@ recounted m k c = put_node m k (with_count (node_at m k) c)
 
 -- one holder of k more
 abbrev pub retained : Memory → ℕ → Memory
-retained m k = recounted m k (countAt m.nodes k + 1)
+retained m k = recounted m k (count_at m.nodes k + 1)
 
 -- k not in use any more, and its words neither
 abbrev pub vacated : Memory → ℕ → Memory
@@ -28,11 +28,11 @@ each_slot f m (Some c ∷ ss) = each_slot f (f m c) ss
 unfoldable pub released : ℕ → Memory → ℕ → Memory
 released zero m k = m
 released (suc f) m k =
-    elim (countAt m.nodes k == 1) [
-      | true ↦ each_slot (released f) (vacated m k) (slotsAt m.nodes k)
-      | false ↦ recounted m k (countAt m.nodes k - 1)
+    elim (count_at m.nodes k == 1) [
+      | true ↦ each_slot (released f) (vacated m k) (slots_at m.nodes k)
+      | false ↦ recounted m k (count_at m.nodes k - 1)
     ]
 
 -- one holder of k less
 abbrev pub release : Memory → ℕ → Memory
-release m k = released (suc (heightAt m.nodes k)) m k
+release m k = released (suc (height_at m.nodes k)) m k

@@ -3,7 +3,7 @@
 // Changed: ported from Rust to Rattle, over nodes and runs of words in a pool.
 
 ghost use Rattle.std.specs.Prelude.{◌≡◌, ℕ, ◌+◌, ◌<◌};
-ghost use Rattle.pool.specs.Memory.{countAt, heightAt};
+ghost use Rattle.pool.specs.Memory.{count_at, height_at};
 ghost use Rattle.pool.specs.Counts.{Falling, Owed, OwedAll, tallest};
 ghost use Rattle.pool.specs.Order.{Within};
 ghost use Rattle.pool.specs.Sharing.{retained, released, each_slot};
@@ -15,8 +15,8 @@ use crate::pool::Pool;
 impl Pool<'_> {
     // One holder of n more.
     pub fn retain(&mut self, n: u8)
-        requires used { 0 < countAt self.old.nodes.now n }
-        requires room { countAt self.old.nodes.now n < 65535 }
+        requires used { 0 < count_at self.old.nodes.now n }
+        requires room { count_at self.old.nodes.now n < 65535 }
         ensures { memory_of self.new ≡ retained (memory_of self.old) n }
     {
         self.nodes[n as usize].count += 1;
@@ -28,7 +28,7 @@ impl Pool<'_> {
         requires owed { Owed self.old.nodes.now n }
         requires falling { Falling self.old.nodes.now }
         requires within { Within self.old.nodes.now self.old.words.now }
-        ensures { (f : ℕ) → heightAt self.old.nodes.now n < f → memory_of self.new ≡ released f (memory_of self.old) n }
+        ensures { (f : ℕ) → height_at self.old.nodes.now n < f → memory_of self.new ≡ released f (memory_of self.old) n }
     {
         let node = self.nodes[n as usize];
         if node.count != 1 {

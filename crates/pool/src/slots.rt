@@ -2,7 +2,7 @@
 // SPDX-FileCopyrightText: Copyright the Vortex contributors
 // Changed: ported from Rust to Rattle, over node numbers and share counts in place of `Arc`.
 ghost use Rattle.std.specs.Prelude.{◌≡◌, ℕ, ◌+◌, ◌<◌, ◌≤◌, List, ◌∷◌, length, Some, None};
-ghost use Rattle.pool.specs.Memory.{countAt, run_at};
+ghost use Rattle.pool.specs.Memory.{count_at, run_at};
 ghost use Rattle.pool.specs.Counts.{names, times, Owed, tallest};
 ghost use Rattle.pool.specs.Order.{Ordered};
 ghost use Rattle.pool.specs.Sharing.{retained, each_slot};
@@ -15,8 +15,8 @@ use crate::pool::Pool;
 impl Pool<'_> {
     // One holder more of all that the slots name.
     fn retain_slots(&mut self, slots: [Option<u8>; SLOTS])
-        requires used { (c : ℕ) → 0 < times c (names slots) → 0 < countAt self.old.nodes.now c }
-        requires room { (k : ℕ) → countAt self.old.nodes.now k + 8 < 65536 }
+        requires used { (c : ℕ) → 0 < times c (names slots) → 0 < count_at self.old.nodes.now c }
+        requires room { (k : ℕ) → count_at self.old.nodes.now k + 8 < 65536 }
         ensures { memory_of self.new ≡ each_slot retained (memory_of self.old) slots }
     {
         for slot in slots {
@@ -30,7 +30,7 @@ impl Pool<'_> {
     fn own(&mut self, n: u8) -> Result<u8, PoolFault>
         requires owed { Owed self.old.nodes.now n }
         requires sized { length self.old.nodes.now ≤ 256 }
-        requires room { (k : ℕ) → countAt self.old.nodes.now k + 8 < 65536 }
+        requires room { (k : ℕ) → count_at self.old.nodes.now k + 8 < 65536 }
         ensures { (result, memory_of self.new) ≡ owned (memory_of self.old) n }
     {
         let node = self.nodes[n as usize];

@@ -35,14 +35,14 @@ put_apart n run k r j whole inside taken l ne =
     (cases_eq (j / 32) (k / 32)))
 
 -- what tidy says of a run, with the test for a whole last word named
-abbrev Tidy : Bool → ℕ → List ℕ → Bool
-Tidy b n run = elim b [ true ↦ true | false ↦ ltb (slice_index run (n / 32)) (2 ^ (n % 32)) ]
+abbrev tidy_by : Bool → ℕ → List ℕ → Bool
+tidy_by b n run = elim b [ true ↦ true | false ↦ ltb (slice_index run (n / 32)) (2 ^ (n % 32)) ]
 
-tidy_from : (b : Bool) (n : ℕ) (run : List ℕ) → (b ≡ false → slice_index run (n / 32) < 2 ^ (n % 32)) → Tidy b n run ≡ true
+tidy_from : (b : Bool) (n : ℕ) (run : List ℕ) → (b ≡ false → slice_index run (n / 32) < 2 ^ (n % 32)) → tidy_by b n run ≡ true
 tidy_from true n run h = refl
 tidy_from false n run h = lt-ltb (slice_index run (n / 32)) (2 ^ (n % 32)) (h refl)
 
-tidy_to : (b : Bool) (n : ℕ) (run : List ℕ) → Tidy b n run ≡ true → b ≡ false → slice_index run (n / 32) < 2 ^ (n % 32)
+tidy_to : (b : Bool) (n : ℕ) (run : List ℕ) → tidy_by b n run ≡ true → b ≡ false → slice_index run (n / 32) < 2 ^ (n % 32)
 tidy_to true n run t e = let z : ◌≡◌ {A = ℕ} 0 1 = cc in absurd (omega arith)
 tidy_to false n run t e = ltb-true (slice_index run (n / 32)) (2 ^ (n % 32)) t
 

@@ -1,7 +1,7 @@
 use Rattle.std.proofs.Common.{◌≡◌, suc, true, false, length, set, Some, None, sym, refl, ap, ◌∙◌, subst, arith}
 use Rattle.std.proofs.lemmas.List.{length-set}
 use Rattle.std.proofs.lemmas.Bool.{lt-ltb, le-ltb}
-use Rattle.pool.specs.Memory.{Memory, heightAt}
+use Rattle.pool.specs.Memory.{Memory, height_at}
 use Rattle.planner.specs.Calls.{done}
 use Rattle.planner.specs.Called.{State, root_at, with_root}
 use Rattle.planner.specs.Seen.{state_of}
@@ -42,7 +42,7 @@ pub invariant_of-self : goal.invariant_of-self
 invariant_of-self g c =
     let m : Memory = (state_of c.args.self.now).memory in
     let long : length c.args.self.now.roots ≡ 32 = c.args.self.now.roots_long in
-    subst (λ (m : Memory). Ghosts m (set c.args.self.now.roots c.args.root None)) (sym (c.release.ensures (suc (heightAt m.nodes c.in-Some.node)) (omega arith)))
+    subst (λ (m : Memory). Ghosts m (set c.args.self.now.roots c.args.root None)) (sym (c.release.ensures (suc (height_at m.nodes c.in-Some.node)) (omega arith)))
     (ghosts_of _ (set c.args.self.now.roots c.args.root None) (length-set c.args.self.now.roots c.args.root None ∙ long) (emptied_ordered m c.args.self.now.roots (ordered_of c.args.self.now) c.args.root c.in-Some.node (omega arith) c.in-Some.ensures))
 
 pub returns : goal.returns
@@ -50,7 +50,7 @@ returns g c =
     let s : State = state_of c.args.self.now in
     let e = emptied_is s c.args.root true (Some c.in-Some.node) (lt-ltb c.args.root 32 c.if-root-ge-ROOTS.false) c.in-Some.ensures in
     record {
-      does = does _ _ (g.met.K.RowKinds.lawful _) (g.E.Encoding.lawful _ _) s _ _ _ (ap (λ (m : Memory). (done, with_root s m c.args.root None)) (c.release.ensures (suc (heightAt s.memory.nodes c.in-Some.node)) (omega arith)) ∙ e);
+      does = does _ _ (g.met.K.RowKinds.lawful _) (g.E.Encoding.lawful _ _) s _ _ _ (ap (λ (m : Memory). (done, with_root s m c.args.root None)) (c.release.ensures (suc (height_at s.memory.nodes c.in-Some.node)) (omega arith)) ∙ e);
       kinds = refl;
       encodings = refl;
     }

@@ -1,7 +1,7 @@
 use Rattle.std.proofs.Common.{◌≡◌, ℕ, ◌+◌, ◌-◌, ◌<◌, ◌≤◌, List, [], ◌∷◌, length, get_or, take, drop, replicate, Some, None, Option, sym, ap, ◌∙◌, subst, arith}
 use Rattle.std.proofs.lemmas.List.{drop_more, drop_all, length-take, length-drop}
 use Rattle.pool.specs.declared.pool.Pool.{Pool}
-use Rattle.pool.specs.Memory.{Memory, slotsAt, start_at, run_at, overwritten, with_words}
+use Rattle.pool.specs.Memory.{Memory, slots_at, start_at, run_at, overwritten, with_words}
 use Rattle.pool.specs.Order.{Within}
 use Rattle.pool.specs.Sharing.{vacated, each_slot, released}
 use Rattle.pool.specs.Seen.{memory_of}
@@ -54,7 +54,7 @@ release-returns t c =
     let n : ℕ = c.args.n in
     let e = filled m.words c.fill.new.self (start_at m.nodes n) (run_at m.nodes n) (c.requires.within n) (c.fill.ensures.after (λ y q. q)) in
     code_last m n c.requires.owed c.requires.falling c.requires.within (memory_of c.release_slots.new.self) c.if-node-ne1.false
-    (λ f h. c.release_slots.ensures f h ∙ ap (λ (ws : List ℕ). each_slot (released f) (with_words (vacated m n) ws) (slotsAt m.nodes n)) e)
+    (λ f h. c.release_slots.ensures f h ∙ ap (λ (ws : List ℕ). each_slot (released f) (with_words (vacated m n) ws) (slots_at m.nodes n)) e)
 
 -- what is left at an index, by the slot there
 at : (entry m : Memory) (all : List (Option ℕ)) (i : ℕ) (s : Option ℕ) → Left entry m all (drop i all) → i < length all → get_or all i None ≡ s → Left entry m all (s ∷ drop (i + 1) all)

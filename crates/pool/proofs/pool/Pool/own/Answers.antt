@@ -1,5 +1,5 @@
 use Rattle.std.proofs.Common.{ℕ, ◌-◌, ◌<◌, List, length, ap, ⊎_elim, arith}
-use Rattle.pool.specs.Memory.{Memory, countAt}
+use Rattle.pool.specs.Memory.{Memory, count_at}
 use Rattle.pool.specs.Seen.{memory_of}
 use Rattle.pool.proofs.Counted.{owed_in, owed_used}
 use Rattle.pool.proofs.Copying.{recount_cases, less_slots, spread_long}
@@ -23,7 +23,7 @@ retain_slots-requires c =
           ⊎_elim
           (λ q. omega (arith, q.1, c.requires.room n))
           (λ q. omega (arith, q.1, c.requires.room k))
-          (recount_cases m.nodes n (countAt m.nodes n - 1) (owed_in m.nodes n hs c.requires.owed.1) k);
+          (recount_cases m.nodes n (count_at m.nodes n - 1) (owed_in m.nodes n hs c.requires.owed.1) k);
     }
 
 pub bounds-self-copy : goal.bounds-self-copy
