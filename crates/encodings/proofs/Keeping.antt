@@ -18,9 +18,6 @@ pub reaches_on : {ns : List Node} {a b c : ℕ} → Reaches ns a b → Reaches n
 reaches_on r here = r
 reaches_on r (step s c h) = step (reaches_on r s) c h
 
-times_first : (c x : ℕ) (xs : List ℕ) → x ≡ c → 0 < times c (x ∷ xs)
-times_first c x xs e = omega (arith, cond-true {A = ℕ} (eqb x c) 1 0 (eq-eqb x c e))
-
 -- what some of the slots name, all of them name
 pub times_take : (c n : ℕ) (ss : List (Option ℕ)) → times c (names (take n ss)) ≤ times c (names ss)
 times_take c zero ss = omega arith
@@ -33,10 +30,8 @@ gathered_same f g [] e = refl
 gathered_same f g (None ∷ ss) e = refl
 gathered_same {A = A} f g (Some x ∷ ss) e =
     let rest : gathered f ss ≡ gathered g ss = gathered_same f g ss (λ c h. e c (omega arith)) in
-    let first : f x ≡ g x = e x (times_first x x (names ss) refl) in
-    let join : Option A → Option (List A) → Option (List A)
-    = λ o rs. elim o [ None ↦ None | Some r ↦ elim rs [ None ↦ None | Some l ↦ Some (r ∷ l) ] ] in
-    ap (λ (o : Option A). join o (gathered f ss)) first ∙ ap (λ (o : Option (List A)). join (g x) o) rest
+    let first : f x ≡ g x = e x (omega (arith, cond-true {A = ℕ} (eqb x x) 1 0 (eq-eqb x x refl))) in
+    λ i. elim (first i) as (λ _. Option (List A)) [ None ↦ None | Some r ↦ elim (rest i) [ None ↦ None | Some l ↦ Some (r ∷ l) ] ]
 
 -- what a node shows, from its children's rows and its run
 abbrev shown : Kinds → Encodings → Node → List ℕ → Option (List (List Row)) → Option (List Row)
@@ -59,9 +54,7 @@ module _ (ks : Kinds) (es : Encodings) (m q : Memory) where
       let cq : List (Option ℕ) → Option (List (List Row)) = λ ss. gathered (rows_at ks es f q) ss in
       let children : cq (slots_of nd) ≡ gathered (rows_at ks es f m) (slots_of nd)
       = gathered_same (rows_at ks es f q) (rows_at ks es f m) (slots_of nd) (λ c h. rows_at_kept f c (child_kept k c kept h)) in
-      ap (λ (x : Node). shown ks es x (run_of q k) (cq (slots_of x))) same.same_node
-      ∙ ap (λ (run : List ℕ). shown ks es nd run (cq (slots_of nd))) same.same_run
-      ∙ ap (λ (o : Option (List (List Row))). shown ks es nd (run_of m k) o) children
+      (λ i. shown ks es (same.same_node i) (same.same_run i) (cq (slots_of (same.same_node i)))) ∙ ap (shown ks es nd (run_of m k)) children
 
   pub rows_kept : (k : ℕ) → Kept m q k → rows_of ks es q k ≡ rows_of ks es m k
   unfolding rows_of

@@ -3,7 +3,6 @@ ghost use Rattle.encodings.specs.Flat.{flat_encodings, flat_lawful};
 
 use crate::encoding::Encoding;
 use crate::matcher::{Head, Matcher};
-use pool::node::FLAT;
 
 // An array whose rows lie in its own run of words.
 #[derive(Clone, Copy)]
@@ -13,7 +12,7 @@ impl Matcher for Flat {
     ghost takes = { λ _ head. (head.encoding == 1) };
 
     fn matches(&self, head: Head) -> bool {
-        head.encoding == FLAT
+        head.is_flat()
     }
 }
 

@@ -7,13 +7,22 @@ ghost use Rattle.encodings.specs.declared.matcher.Head.{Head};
 
 use pool::node::FLAT;
 
-// What a matcher sees of an array.
+// What a matcher sees of an array, with the numbers that a node has.
 #[derive(Clone, Copy)]
 pub struct Head {
     pub encoding: u8,
     pub kind: u8,
     pub len: u16,
     pub parameter: u32,
+}
+
+impl Head {
+    // Whether the array is Flat.
+    pub fn is_flat(&self) -> bool
+        ensures { result ≡ (self.now.encoding == 1) }
+    {
+        self.encoding == FLAT
+    }
 }
 
 // Says yes or no to an array, from its encoding, kind, length and parameter alone.
@@ -44,6 +53,6 @@ impl Matcher for AnyCanonical {
     ghost takes = { λ _ head. (head.encoding == 1) };
 
     fn matches(&self, head: Head) -> bool {
-        head.encoding == FLAT
+        head.is_flat()
     }
 }

@@ -1,18 +1,16 @@
 #![tactic(auto)]
 
 use encodings::encoding::Encoding;
-use encodings::flat::Flat;
-use encodings::matcher::{AnyCanonical, Matcher};
+use encodings::matcher::Matcher;
 use lines::buffer::LineBuffer;
 use lines::parse::longest;
 use lines::respond::respond;
-use optimizer::{Bank, EmptyBank};
+use optimizer::Bank;
 use planner::planner::Planner;
-use pool::node::Node;
-use pool::pool::{NODES, WORDS};
+use planner::session::Session;
+use pool::pool::Tables;
 use rows::kinds::{BaseKinds, RowKinds};
-use std::io;
-use std::io::{Read, Write};
+use std::io::{self, BufRead, BufReader, Write};
 
 // Answers the line that is waiting, and sends the answer on its way.
 fn answer_line<K: RowKinds, E: Encoding, B: Bank, M: Matcher>(
@@ -30,38 +28,30 @@ fn answer_line<K: RowKinds, E: Encoding, B: Bank, M: Matcher>(
 // One call a line from standard input, and one answer a line, at once, to standard output.
 fn main(rt: HostRuntime) -> io::Result<()> {
     let heap = rt.alloc();
-    let mut nodes = [Node::FREE; NODES];
-    let mut words = [0; WORDS];
-    let mut planner = Planner::new(
-        &mut nodes,
-        &mut words,
-        BaseKinds,
-        Flat,
-        EmptyBank,
-        AnyCanonical,
-    );
+    let mut tables = Tables::EMPTY;
+    let mut planner = Planner::new(&mut tables, Session::BASE);
     let digits = longest(&BaseKinds);
     let mut line = LineBuffer::new(heap, digits + 1)?;
     let mut out = Vec::with_capacity(heap, digits + 1)?;
-    let mut input = rt.stdin();
     let mut output = rt.stdout();
-    let mut chunk = [0; 4096];
-    let mut begun = false;
+    let mut input = BufReader::new(heap, rt.stdin())?;
+    // a number of turns, since a loop that waits on input has nothing that goes down
     for _ in 0..u64::MAX {
-        let count = input.read(&mut chunk)?;
-        if count == 0 {
+        let chunk = input.fill_buf()?;
+        if chunk.is_empty() {
             break;
         }
-        for byte in &chunk[0..count] {
-            begun = *byte != b'\n';
-            if begun {
-                line.push(*byte);
-            } else {
-                answer_line(&mut planner, &mut line, &mut out, &mut output)?;
+        for byte in chunk {
+            match *byte {
+                b'\n' => answer_line(&mut planner, &mut line, &mut out, &mut output)?,
+                byte => line.push(byte),
             }
         }
+        let length = chunk.len();
+        input.consume(length);
     }
-    if begun {
+    // The last line may lack its line feed. A line that is begun keeps a byte.
+    if !line.is_empty() {
         answer_line(&mut planner, &mut line, &mut out, &mut output)?;
     }
     Ok(())

@@ -1,29 +1,11 @@
--- A line that is cut at a limit.
-use Rattle.std.proofs.Common.{◌≡◌, ℕ, ◌+◌, ◌-◌, ◌<◌, ◌≤◌, Bool, true, false, List, [], ◌∷◌, ◌++◌, length, take, Some, None, Option, sym, ap, ◌∙◌, ⊎_elim, arith, length-take, le-leb}
-use Rattle.std.proofs.lemmas.List.{take_all, take-append-le, length_push}
+-- A line that is cut at a limit, and one that is not.
+use Rattle.std.proofs.Common.{◌≡◌, ℕ, ◌+◌, ◌-◌, ◌<◌, ◌≤◌, Bool, true, false, List, length, take, Some, None, Option, sym, ap, ◌∙◌, ⊎_elim, arith, length-take, le-leb}
+use Rattle.std.proofs.lemmas.List.{take_all}
 use Rattle.std.proofs.lemmas.Bool.{lt-leb, cases_lt}
 use Rattle.rows.specs.Kind.{Kinds}
 use Rattle.planner.specs.Calls.{Told}
 use Rattle.lines.specs.Text.{decoded}
 use Rattle.lines.specs.Parse.{parsed, longest, asked}
-
--- a byte that still has a place
-pub kept : (xs : List ℕ) (x n : ℕ) → length xs < n → xs ++ x ∷ [] ≡ take n (xs ++ x ∷ [])
-kept xs x n h = sym (take_all n (xs ++ x ∷ []) (omega (arith, length_push xs x)))
-
--- a byte that has none
-pub dropped : (xs : List ℕ) (x n : ℕ) → length xs ≡ n → xs ≡ take n (xs ++ x ∷ [])
-dropped xs x n h = sym (take-append-le n xs (x ∷ []) (omega arith) ∙ take_all n xs (omega arith))
-
--- what is cut of what was cut
-pub cut_again : (xs whole : List ℕ) (x n : ℕ) → xs ≡ take n whole → take n (xs ++ x ∷ []) ≡ take n (whole ++ x ∷ [])
-cut_again xs whole x n e =
-    ⊎_elim
-    (λ (l : length whole < n). let t = take_all n whole (omega arith) in ap (λ (q : List ℕ). take n (q ++ x ∷ [])) (e ∙ t))
-    (λ (l : n ≤ length whole).
-    let k : length xs ≡ n = ap length e ∙ length-take n whole ∙ omega arith in
-    sym (dropped xs x n k) ∙ e ∙ sym (take-append-le n whole (x ∷ []) l))
-    (cases_lt (length whole) n)
 
 abbrev asked_if : Kinds → Option (List ℕ) → Bool → Option Told
 asked_if ks o t = elim t [ true ↦ elim o [ None ↦ None | Some bs ↦ parsed ks bs ] | false ↦ None ]

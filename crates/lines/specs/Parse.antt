@@ -1,5 +1,5 @@
 -- The call that a line stands for.
-use Rattle.std.specs.Prelude.{◌≡◌, ℕ, ◌+◌, ◌*◌, Bool, true, false, ◌⊎◌, List, [], ◌∷◌, length, take, drop, Some, None, Option, ◌==◌, nat_le, slice_index, slice_index_or}
+use Rattle.std.specs.Prelude.{◌≡◌, ℕ, ◌+◌, ◌*◌, Bool, true, false, ◌⊎◌, List, [], ◌∷◌, length, take, drop, Some, None, Option, ◌==◌, nat_le, slice_index}
 use Rattle.rows.specs.Kind.{Kinds}
 use Rattle.planner.specs.Calls.{Told, make, share, release, read}
 use Rattle.planner.specs.Called.{in_range}
@@ -16,7 +16,7 @@ rows_of ks kind n bytes = elim (in_range ks kind n) [ true ↦ bytes | false ↦
 -- root, kind, length, then the rows
 abbrev pub make_of : Kinds → List ℕ → Option Told
 make_of ks bs =
-    let kind = slice_index_or bs 1 0 in
+    let kind = slice_index bs 1 in
     let n = two (slice_index bs 2) (slice_index bs 3) in
     elim (nat_le 4 (length bs)) [
       | true ↦ Some (make (slice_index bs 0) kind n (rows_of ks kind n (drop 4 bs)))

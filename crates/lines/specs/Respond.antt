@@ -26,13 +26,13 @@ GoesOn ks es h s (Some c) t = Extends ks es h c (called ks s c).0 t
 -- written in place of what the buffer held.
 pub record Responds {K E B M X Y Z : Type 0} (kinds_of : K → Kinds) (means_of : E → Kinds → Encodings) (p q : Planner K E B M) (call : Option Told) (r : Result X Y) (old new : Vec ℕ Z) : Type 0 where
   -- the state after is that of the planner's definition
-  pub state : state_of q ≡ (responded (kinds_of p.kinds) (state_of p) call).1
+  pub state : state_of q ≡ (responded (kinds_of p.session.kinds) (state_of p) call).1
   -- the digits are those of the planner's answer
-  pub digits : Wrote r old new (written (kinds_of p.kinds) (responded (kinds_of p.kinds) (state_of p) call).0)
+  pub digits : Wrote r old new (written (kinds_of p.session.kinds) (responded (kinds_of p.session.kinds) (state_of p) call).0)
   -- the law holds, whatever history led to the state before
-  pub law : (h : History) → Reached (kinds_of p.kinds) h (state_of p) → GoesOn (kinds_of p.kinds) (means_of p.encodings (kinds_of p.kinds)) h (state_of p) call (state_of q)
+  pub law : (h : History) → Reached (kinds_of p.session.kinds) h (state_of p) → GoesOn (kinds_of p.session.kinds) (means_of p.session.encodings (kinds_of p.session.kinds)) h (state_of p) call (state_of q)
   -- a buffer with the room of the longest call has room for every answer
   pub capacity : vec_capacity old ≤ vec_capacity new
-  pub room : (h : History) → Reached (kinds_of p.kinds) h (state_of p) → longest (kinds_of p.kinds) ≤ vec_capacity old → is_ok r ≡ true
-  pub kinds : q.kinds ≡ p.kinds
-  pub encodings : q.encodings ≡ p.encodings
+  pub room : (h : History) → Reached (kinds_of p.session.kinds) h (state_of p) → longest (kinds_of p.session.kinds) ≤ vec_capacity old → is_ok r ≡ true
+  -- it works with the same kinds, encodings, bank and matcher
+  pub session : q.session ≡ p.session

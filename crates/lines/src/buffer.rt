@@ -1,4 +1,4 @@
-ghost use Rattle.std.specs.Prelude.{◌≡◌, ℕ, ◌≤◌, List, [], ◌∷◌, ◌++◌, take, IfOk, vec_len, vec_capacity};
+ghost use Rattle.std.specs.Prelude.{◌≡◌, ◌↔◌, ℕ, ◌≤◌, List, [], ◌∷◌, ◌++◌, take, IsTrue, IfOk, vec_len, vec_capacity};
 
 use std::alloc::{AllocError, Global};
 
@@ -8,6 +8,7 @@ mod lend;
 #[derive(Drop)]
 pub struct LineBuffer {
     bytes: Vec<u8>,
+    // how many bytes are kept at most; the Vec may have room for more
     limit: usize,
     ghost room: { limit ≤ vec_capacity bytes },
     ghost short: { vec_len bytes ≤ limit },
@@ -20,6 +21,13 @@ impl LineBuffer {
     {
         let bytes = Vec::with_capacity(heap, limit)?;
         Ok(LineBuffer { bytes, limit })
+    }
+
+    // Whether no byte is kept.
+    pub fn is_empty(&self) -> bool
+        ensures { IsTrue result ↔ (self.now.bytes.items ≡ []) }
+    {
+        self.bytes.is_empty()
     }
 
     // One byte more, forgotten where the line has reached the limit.

@@ -19,73 +19,34 @@ fn rows_in_range<'a, K: RowKinds>(kinds: &K, kind: u8, len: u16, rows: &'a [u8])
     }
 }
 
-// A making: root, kind, length, rows.
-fn make_call<'a, K: RowKinds>(kinds: &K, body: &'a [u8]) -> Option<Call<'a>>
-    ensures { option_map calls.told result ≡ parses.make_of (K.RowKinds.kinds kinds.now) body.now }
-{
-    match body {
-        [root, kind, l1, l0, rows @ ..] => {
-            let len = u16::from_be_bytes([*l1, *l0]);
-            let rows = rows_in_range(kinds, *kind, len, rows);
-            Some(Call::Make {
-                root: *root,
-                kind: *kind,
-                len,
-                rows,
-            })
-        }
-        _ => None,
-    }
-}
-
-// A sharing: to, from.
-fn share_call<'a>(body: &'a [u8]) -> Option<Call<'a>>
-    ensures { option_map calls.told result ≡ parses.share_of body.now }
-{
-    match body {
-        [to, from] => Some(Call::Share {
-            to: *to,
-            from: *from,
-        }),
-        _ => None,
-    }
-}
-
-// A release: the root alone.
-fn release_call<'a>(body: &'a [u8]) -> Option<Call<'a>>
-    ensures { option_map calls.told result ≡ parses.root_of calls.release body.now }
-{
-    match body {
-        [root] => Some(Call::Release { root: *root }),
-        _ => None,
-    }
-}
-
-// A reading: the root alone.
-fn read_call<'a>(body: &'a [u8]) -> Option<Call<'a>>
-    ensures { option_map calls.told result ≡ parses.root_of calls.read body.now }
-{
-    match body {
-        [root] => Some(Call::Read { root: *root }),
-        _ => None,
-    }
-}
-
-// The call that bytes stand for, if any: its code, then its fields, then the rest.
+// The call that bytes stand for, if any: its code, then its fields, then the rest. The codes of calls stand here alone.
+#[tactic(auto, using(crate::proofs::Alone::from_one_text))]
 pub fn parse<'a, K: RowKinds>(kinds: &K, bytes: &'a [u8]) -> Option<Call<'a>>
     ensures call { option_map calls.told result ≡ parses.parsed (K.RowKinds.kinds kinds.now) bytes.now }
     ensures alone { parses.FromOneText (K.RowKinds.kinds kinds.now) }
 {
     match bytes {
-        [0x01, body @ ..] => make_call(kinds, body),
-        [0x03, body @ ..] => share_call(body),
-        [0x04, body @ ..] => release_call(body),
-        [0x09, body @ ..] => read_call(body),
+        [0x01, root, kind, l1, l0, rows @ ..] => {
+            let len = u16::from_be_bytes([*l1, *l0]);
+            Some(Call::Make {
+                root: *root,
+                kind: *kind,
+                len,
+                rows: rows_in_range(kinds, *kind, len, rows),
+            })
+        }
+        [0x03, to, from] => Some(Call::Share {
+            to: *to,
+            from: *from,
+        }),
+        [0x04, root] => Some(Call::Release { root: *root }),
+        [0x09, root] => Some(Call::Read { root: *root }),
         _ => None,
     }
 }
 
 // The digits of the longest call. A text that is cut one digit past them asks the same as the whole.
+#[tactic(auto, using(crate::proofs::Keeping::cut_asks))]
 pub fn longest<K: RowKinds>(kinds: &K) -> usize
     ensures value { result ≡ parses.longest (K.RowKinds.kinds kinds.now) }
     ensures cut { (line : List ℕ) → parses.asked (K.RowKinds.kinds kinds.now) (take (result + 1) line) ≡ parses.asked (K.RowKinds.kinds kinds.now) line }
@@ -94,6 +55,7 @@ pub fn longest<K: RowKinds>(kinds: &K) -> usize
 }
 
 // The call that a line of digits stands for, if any. The line is decoded in place.
+#[tactic(auto, using(crate::proofs::Keeping::asked_is))]
 pub fn read_line<'a, K: RowKinds>(kinds: &K, line: &'a mut [u8]) -> Option<Call<'a>>
     ensures { option_map calls.told result ≡ parses.asked (K.RowKinds.kinds kinds.now) line.old }
 {
@@ -101,5 +63,5 @@ pub fn read_line<'a, K: RowKinds>(kinds: &K, line: &'a mut [u8]) -> Option<Call<
         return None;
     }
     let n = decode(line)?;
-    parse(kinds, &line[0..n])
+    parse(kinds, &line[..n])
 }

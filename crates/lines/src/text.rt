@@ -1,7 +1,7 @@
-ghost use Rattle.std.specs.Prelude.{◌≡◌, ◌+◌, ◌*◌, ◌<◌, ◌≤◌, [], ◌∷◌, length, take, IfSome, vec_capacity};
+ghost use Rattle.std.specs.Prelude.{◌≡◌, ◌*◌, ◌<◌, [], ◌∷◌, length, take, IfSome};
 ghost use Rattle.std.specs.Option.{option_map};
 ghost use Rattle.lines.specs.Text as text;
-ghost use Rattle.lines.specs.Append.{Appended};
+ghost use Rattle.lines.specs.Append.{Appends};
 
 use std::alloc::AllocError;
 
@@ -17,15 +17,17 @@ fn digit(b: u8) -> Option<u8>
     }
 }
 
-// Puts the bytes that a line of digits stands for at its front, and says how many they are.
+// Puts the bytes that a line of digits stands for at its front, and says how many they are. A slice of them would be
+// lent, and of a lender nothing could be promised here.
 pub fn decode(line: &mut [u8]) -> Option<usize>
     ensures bytes { text.decoded line.old ≡ option_map (λ n. take n line.new) result }
     ensures half { IfSome result (λ n. 2 * n ≡ length line.old) }
 {
-    if line.len() % 2 != 0 {
+    if !line.len().is_multiple_of(2) {
         return None;
     }
     let count = line.len() / 2;
+    // by index, since it reads ahead in the buffer that it writes
     for i in 0..count {
         let high = digit(line[2 * i])?;
         let low = digit(line[2 * i + 1])?;
@@ -44,8 +46,7 @@ fn spell(v: u8) -> u8
 
 // Appends the two digits of a byte.
 pub fn push_byte(out: &mut Vec<u8>, byte: u8) -> Result<(), AllocError>
-    ensures items { Appended result out.old out.new (byte ∷ []) }
-    ensures capacity { vec_capacity out.old ≤ vec_capacity out.new }
+    ensures { Appends result out.old out.new (byte ∷ []) }
 {
     out.push(spell(byte / 16))?;
     out.push(spell(byte % 16))?;
@@ -53,9 +54,9 @@ pub fn push_byte(out: &mut Vec<u8>, byte: u8) -> Result<(), AllocError>
 }
 
 // Appends the digits of bytes.
+#[tactic(auto, using(crate::proofs::Spelling::appending))]
 pub fn push_bytes(out: &mut Vec<u8>, bytes: &[u8]) -> Result<(), AllocError>
-    ensures items { Appended result out.old out.new bytes.now }
-    ensures capacity { vec_capacity out.old ≤ vec_capacity out.new }
+    ensures { Appends result out.old out.new bytes.now }
 {
     for byte in bytes {
         push_byte(out, *byte)?;

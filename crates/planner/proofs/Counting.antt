@@ -1,8 +1,10 @@
--- The roots in use, one by one.
-use Rattle.std.proofs.Common.{◌≡◌, ℕ, ◌+◌, ◌<◌, List, ◌∷◌, length, get_or, drop, None, Option, ap, ◌∙◌}
-use Rattle.std.proofs.lemmas.List.{drop_more}
+-- The roots in use, counted.
+use Rattle.std.proofs.Common.{◌≡◌, ℕ, List, [], ◌∷◌, Some, None, Option, is_some, refl, ap, ◌∙◌, cond}
+use Rattle.std.proofs.lemmas.List.Sums.{sum_by_from}
+use Rattle.std.specs.Prelude.{◌+◌, count_by}
 use Rattle.planner.specs.Contract.{roots_used}
 
--- one root more
-pub used_more : (rs : List (Option ℕ)) (i : ℕ) (o : Option ℕ) → i < length rs → get_or rs i None ≡ o → roots_used (drop i rs) ≡ roots_used (o ∷ drop (i + 1) rs)
-used_more rs i o h e = ap (λ (l : List (Option ℕ)). roots_used l) (drop_more rs i None h ∙ ap (λ (x : Option ℕ). x ∷ drop (i + 1) rs) e)
+pub used_counted : (rs : List (Option ℕ)) → count_by is_some rs ≡ roots_used rs
+used_counted [] = refl
+used_counted (None ∷ rs) = used_counted rs
+used_counted (Some k ∷ rs) = sum_by_from (λ (o : Option ℕ). cond (is_some o) 1 0) 1 rs ∙ ap (λ (n : ℕ). 1 + n) (used_counted rs)

@@ -43,8 +43,8 @@ opened_by m kind n w i q (Some j) a (Some s) b e =
       is = y ∙ ap (λ (k : ℕ). put_node m k (open_node kind n s w)) (sym at);
     }
 
-pub opened_ok : (m : Memory) (kind n w i : ℕ) (q : Memory) → (Ok i, q) ≡ opened m kind n w → Opened m kind n w i q
-opened_ok m kind n w i q e = opened_by m kind n w i q (lowest_free m.nodes 0) (lowest_free_is m.nodes) (find_run m w) (λ s f. found_room m w s f) e
+pub opened_ok : (m : Memory) (kind n w i : ℕ) (q : Memory) (r : Result ℕ PoolFault) → r ≡ Ok i → (r, q) ≡ opened m kind n w → Opened m kind n w i q
+opened_ok m kind n w i q r ok e = opened_by m kind n w i q (lowest_free m.nodes 0) (lowest_free_is m.nodes) (find_run m w) (λ s f. found_room m w s f) (ap (λ (x : Result ℕ PoolFault). (x, q)) (sym ok) ∙ e)
 
 pub nodes_appended : (ks : Kinds) (m : Memory) (i k : ℕ) (rs : List Row) → (append_rows ks m i k rs).nodes ≡ m.nodes
 nodes_appended ks m i k [] = refl
@@ -114,5 +114,5 @@ abbrev finish_by : Kinds → List Row → Result ℕ PoolFault × Memory → Res
 finish_by ks rs o = elim o.0 [ Err f ↦ (Err f, o.1) | Ok j ↦ (Ok j, finished (append_rows ks o.1 j 0 rs) j) ]
 
 -- what a build gives once its builder was opened
-pub built_ok : (ks : Kinds) (m q : Memory) (kind n i : ℕ) (rs : List Row) → (Ok i, q) ≡ opened m kind n ((ks.kind kind).words n) → (Ok i, finished (append_rows ks q i 0 rs) i) ≡ built ks m kind n rs
-built_ok ks m q kind n i rs e = ap (λ (o : Result ℕ PoolFault × Memory). finish_by ks rs o) e
+pub built_ok : (ks : Kinds) (m q : Memory) (kind n i : ℕ) (rs : List Row) (r : Result ℕ PoolFault) → r ≡ Ok i → (r, q) ≡ opened m kind n ((ks.kind kind).words n) → (Ok i, finished (append_rows ks q i 0 rs) i) ≡ built ks m kind n rs
+built_ok ks m q kind n i rs r ok e = ap (λ (o : Result ℕ PoolFault × Memory). finish_by ks rs o) (ap (λ (x : Result ℕ PoolFault). (x, q)) (sym ok) ∙ e)

@@ -1,22 +1,10 @@
 -- Roots as holders.
-use Rattle.std.proofs.Common.{◌≡◌, ℕ, zero, suc, ◌+◌, ◌<◌, eqb, List, [], ◌∷◌, length, get_or, set, Some, None, Option, sym, refl, ap, arith}
+use Rattle.std.proofs.Common.{◌≡◌, ℕ, zero, suc, ◌<◌, eqb, List, [], ◌∷◌, length, get_or, set, Some, None, Option, sym, ap, arith}
 use Rattle.std.proofs.lemmas.Bool.{eq-eqb, ne_eqb, cond-true, cond-false}
 use Rattle.pool.specs.Counts.{name, names, times}
 use Rattle.pool.specs.Memory.{Memory}
 use Rattle.pool.specs.Order.{Ordered}
-
-pub times_here : (k : ℕ) (xs : List ℕ) → 0 < times k (k ∷ xs)
-times_here k xs = omega (arith, cond-true {A = ℕ} (eqb k k) 1 0 (eq-eqb k k refl))
-
--- one root takes another array
-pub names_set : (k : ℕ) (ss : List (Option ℕ)) (j : ℕ) (s : Option ℕ) → j < length ss → times k (names (set ss j s)) + times k (name (get_or ss j None)) ≡ times k (names ss) + times k (name s)
-names_set k [] j s h = omega arith
-names_set k (None ∷ ss) zero None h = omega arith
-names_set k (None ∷ ss) zero (Some d) h = omega arith
-names_set k (Some c ∷ ss) zero None h = omega arith
-names_set k (Some c ∷ ss) zero (Some d) h = omega arith
-names_set k (None ∷ ss) (suc j) s h = omega (arith, names_set k ss j s (omega arith))
-names_set k (Some c ∷ ss) (suc j) s h = omega (arith, names_set k ss j s (omega arith))
+use Rattle.pool.proofs.Slotting.{names_set}
 
 -- what a root names is held
 pub names_at : (k : ℕ) (ss : List (Option ℕ)) (j : ℕ) → get_or ss j None ≡ Some k → 0 < times k (names ss)

@@ -1,6 +1,6 @@
 -- The checks of a making, and what its building leaves in order.
 use Rattle.std.proofs.Common.{◌≡◌, ℕ, ◌*◌, ◌<◌, ◌≤◌, Bool, true, false, eqb, leb, List, length, get_or, set, is_some, Some, None, Ok, Err, Option, Result, sym, refl, ap, ◌∙◌, subst, arith}
-use Rattle.std.proofs.lemmas.Bool.{eqb-true, eq-eqb, ne_eqb, and_parts, leb-true}
+use Rattle.std.proofs.lemmas.Bool.{eqb-true, and_parts, leb-true}
 use Rattle.rows.specs.declared.row.Row.{Row}
 use Rattle.rows.specs.Kind.{Kinds, LawfulKind}
 use Rattle.pool.specs.declared.node.PoolFault.{PoolFault}
@@ -20,24 +20,8 @@ module _ (ks : Kinds) (kind n : ℕ) (bytes : List ℕ) where
   size_by : Bool → Bool
   size_by b = elim b [ true ↦ eqb (length bytes) (n * (ks.kind kind).width) | false ↦ true ]
 
-  pub wrong_size : in_range ks kind n ≡ true → (length bytes ≡ n * (ks.kind kind).width → ⊥) → sized ks kind n bytes ≡ false
-  unfolding size_by
-  wrong_size e ne = ap size_by e ∙ ne_eqb (length bytes) (n * (ks.kind kind).width) ne
-
-  pub right_size : in_range ks kind n ≡ true → length bytes ≡ n * (ks.kind kind).width → sized ks kind n bytes ≡ true
-  unfolding size_by
-  right_size e is = ap size_by e ∙ eq-eqb (length bytes) (n * (ks.kind kind).width) is
-
-  pub unknown_size : in_range ks kind n ≡ false → sized ks kind n bytes ≡ true
-  unfolding size_by
-  unknown_size e = ap size_by e
-
   rows_by : Bool → Option (List Row)
   rows_by b = elim b [ true ↦ parsed_rows (ks.kind kind) n bytes | false ↦ None ]
-
-  pub rows_unknown : in_range ks kind n ≡ false → rows_made ks kind n bytes ≡ None
-  unfolding rows_by
-  rows_unknown e = ap rows_by e
 
   none_of : (o : Option (List Row)) → is_some o ≡ false → o ≡ None
   none_of None e = refl
@@ -46,13 +30,12 @@ module _ (ks : Kinds) (kind n : ℕ) (bytes : List ℕ) where
   pub few_rows : in_range ks kind n ≡ true → n ≤ 1024
   few_rows e = leb-true n 1024 (and_parts (ks.has kind) (leb n 1024) e).1
 
-  pub rows_bad : in_range ks kind n ≡ true → is_some (parsed_rows (ks.kind kind) n bytes) ≡ false → rows_made ks kind n bytes ≡ None
+  pub rows_are : in_range ks kind n ≡ true → rows_made ks kind n bytes ≡ parsed_rows (ks.kind kind) n bytes
   unfolding rows_by
-  rows_bad e bad = ap rows_by e ∙ none_of (parsed_rows (ks.kind kind) n bytes) bad
+  rows_are e = ap rows_by e
 
   pub rows_known : in_range ks kind n ≡ true → is_some (parsed_rows (ks.kind kind) n bytes) ≡ true → rows_made ks kind n bytes ≡ Some (rows_parsed (ks.kind kind) n bytes)
-  unfolding rows_by
-  rows_known e good = ap rows_by e ∙ parsed_value (ks.kind kind) n bytes good
+  rows_known e good = rows_are e ∙ parsed_value (ks.kind kind) n bytes good
 
   -- rows there are only where kind and length are in range, and each of the bytes' rows parses
   pub made_known : is_some (rows_made ks kind n bytes) ≡ true → (in_range ks kind n ≡ true) × (is_some (parsed_rows (ks.kind kind) n bytes) ≡ true)

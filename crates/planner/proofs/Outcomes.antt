@@ -1,5 +1,6 @@
 -- The definition of each call, by what its checks find.
-use Rattle.std.proofs.Common.{◌≡◌, ℕ, Bool, true, false, ◌&&◌, eqb, ltb, List, is_some, Some, None, Option, sym, refl, ap, ◌∙◌, subst, arith}
+use Rattle.std.proofs.Common.{◌≡◌, ℕ, ◌<◌, Bool, true, false, ◌&&◌, eqb, ltb, List, is_some, Some, None, Ok, Err, Option, Result, sym, refl, ap, ap₂, ◌∙◌, subst, arith}
+use Rattle.std.proofs.lemmas.Bool.{ltb-true}
 use Rattle.rows.specs.declared.row.Row.{Row}
 use Rattle.rows.specs.Kind.{Kinds}
 use Rattle.rows.specs.Ours.{LawfulKinds}
@@ -7,19 +8,79 @@ use Rattle.pool.specs.Memory.{Memory, node_at, start_at, run_of}
 use Rattle.pool.specs.Sharing as sharing
 use Rattle.pool.specs.Building.{built}
 use Rattle.encodings.specs.Meaning.{Encodings, LawfulEncodings}
+use Rattle.planner.specs.declared.call.Refusal.{Refusal}
 use Rattle.planner.specs.declared.call.Refusal.TheVariants.{Line, RootRange, RootEmpty, RootTaken, Field, NotFlat}
 use Rattle.planner.specs.Calls.{Told, Said, done, rows, refused}
-use Rattle.planner.specs.Called.{State, root_at, with_root, sized, rows_made, placed, made, shared, emptied, handed, read_out, called}
+use Rattle.planner.specs.Called.{State, root_at, root_in, held_in, with_root, sized, rows_made, placed, made, shared, emptied, handed, read_out, called}
+use Rattle.planner.specs.declared.planner.Planner.{Planner}
 use Rattle.planner.specs.Contract.{Does}
+use Rattle.planner.specs.Seen.{state_of, Answers}
 use Rattle.planner.proofs.Histories.{extended}
 
 -- a call that answers by its definition does all that it promises
 pub does : (ks : Kinds) (es : Encodings) → LawfulKinds ks → LawfulEncodings ks es → (s t : State) (c : Told) (a : Said) → (a, t) ≡ called ks s c → Does ks es s c a t
 does ks es lawful means s t c a e = record { value = e; law = λ h r. extended ks lawful es means h s t c a r e }
 
--- ---- sharing, by: the roots in range, what is under the source, what is under the target
-abbrev pub share_by : State → ℕ → Bool → Option ℕ → Option ℕ → Said × State
-share_by s to range source target =
+-- the same, of a planner that keeps its session
+pub answered : {K E B M : Type 0} {kinds_of : K → Kinds} {means_of : E → Kinds → Encodings} → ((k : K) → LawfulKinds (kinds_of k)) → ((e : E) (ks : Kinds) → LawfulEncodings ks (means_of e ks)) → {p q : Planner K E B M} {c : Told} {a : Said} → (a, state_of q) ≡ called (kinds_of p.session.kinds) (state_of p) c → q.session ≡ p.session → Answers kinds_of means_of p q c a
+answered kinds encodings {p} {q} e same = record { does = does _ _ (kinds p.session.kinds) (encodings p.session.encodings _) (state_of p) (state_of q) _ _ e; session = same }
+
+-- ---- what is under a root, by: whether the root exists, what is under it
+abbrev held_by : Bool → Option ℕ → Result ℕ Refusal
+held_by range held = elim range [ true ↦ elim held [ None ↦ Err RootEmpty | Some k ↦ Ok k ] | false ↦ Err RootRange ]
+
+abbrev root_by : Bool → Option ℕ → Result (Option ℕ) Refusal
+root_by range held = elim range [ true ↦ Ok held | false ↦ Err RootRange ]
+
+pub root_ok : (s : State) (r : ℕ) (o : Option ℕ) → Ok o ≡ root_in s r → (r < 32) × (root_at s r ≡ o)
+root_ok s r o e = by (ltb r 32) refl e
+  where
+    by : (b : Bool) → ltb r 32 ≡ b → Ok o ≡ root_by b (root_at s r) → (r < 32) × (root_at s r ≡ o)
+    by true is e = (ltb-true r 32 is, cc)
+    by false is e = let z : ◌≡◌ {A = ℕ} 0 1 = cc in absurd (omega arith)
+
+pub held_ok : (s : State) (r k : ℕ) → Ok k ≡ held_in s r → (r < 32) × (root_at s r ≡ Some k)
+held_ok s r k e = by (ltb r 32) (root_at s r) refl refl e
+  where
+    by : (b : Bool) (o : Option ℕ) → ltb r 32 ≡ b → root_at s r ≡ o → Ok k ≡ held_by b o → (r < 32) × (root_at s r ≡ Some k)
+    by true (Some j) is held e = let z : k ≡ j = cc in (ltb-true r 32 is, held ∙ ap (λ (x : ℕ). Some x) (sym z))
+    by true None is held e = let z : ◌≡◌ {A = ℕ} 0 1 = cc in absurd (omega arith)
+    by false o is held e = let z : ◌≡◌ {A = ℕ} 0 1 = cc in absurd (omega arith)
+
+-- what is done with the array under a root, and what is refused
+abbrev for_held : {X : Type 0} → (Refusal → X) → (ℕ → X) → Result ℕ Refusal → X
+for_held f g r = elim r [ Err e ↦ f e | Ok k ↦ g k ]
+
+held_for : {X : Type 0} (f : Refusal → X) (g : ℕ → X) (range : Bool) (held : Option ℕ) → for_held f g (held_by range held) ≡ elim range [ false ↦ f RootRange | true ↦ elim held [ None ↦ f RootEmpty | Some k ↦ g k ] ]
+held_for f g false held = refl
+held_for f g true None = refl
+held_for f g true (Some k) = refl
+
+module _ (s : State) (root : ℕ) (r : Result ℕ Refusal) (e : r ≡ held_in s root) where
+  pub emptied_is : for_held (λ x. (refused x, s)) (λ k. (done, with_root s (sharing.release s.memory k) root None)) r ≡ emptied s root
+  emptied_is =
+      ap (λ (x : Result ℕ Refusal). for_held (λ x. (refused x, s)) (λ k. (done, with_root s (sharing.release s.memory k) root None)) x) e
+      ∙ held_for {X = Said × State} (λ x. (refused x, s)) (λ k. (done, with_root s (sharing.release s.memory k) root None)) (ltb root 32) (root_at s root)
+
+  pub read_is : for_held (λ x. refused x) (λ k. handed s.memory k) r ≡ read_out s root
+  read_is = ap (λ (x : Result ℕ Refusal). for_held (λ x. refused x) (λ k. handed s.memory k) x) e ∙ held_for {X = Said} (λ x. refused x) (λ k. handed s.memory k) (ltb root 32) (root_at s root)
+
+-- ---- sharing, by: what is under the target, what is under the source
+abbrev pub share_by : State → ℕ → Result (Option ℕ) Refusal → Result ℕ Refusal → Said × State
+share_by s to target source =
+    elim target [
+      | Err e ↦ (refused e, s)
+      | Ok o ↦ elim source [
+        | Err e ↦ (refused e, s)
+        | Ok k ↦ elim o [
+          | Some j ↦ (refused RootTaken, s)
+          | None ↦ (done, with_root s (sharing.retained s.memory k) to (Some k))
+        ]
+      ]
+    ]
+
+abbrev share_with : State → ℕ → Bool → Option ℕ → Option ℕ → Said × State
+share_with s to range source target =
     elim range [
       | false ↦ (refused RootRange, s)
       | true ↦ elim source [
@@ -31,44 +92,43 @@ share_by s to range source target =
       ]
     ]
 
-pub shared_is : (s : State) (to from : ℕ) (range : Bool) (source target : Option ℕ) → (ltb to 32 && ltb from 32) ≡ range → root_at s from ≡ source → root_at s to ≡ target → share_by s to range source target ≡ shared s to from
-shared_is s to from range source target a b c =
-    sym (ap (λ (x : Bool). share_by s to x (root_at s from) (root_at s to)) a
-    ∙ ap (λ (x : Option ℕ). share_by s to range x (root_at s to)) b
-    ∙ ap (λ (x : Option ℕ). share_by s to range source x) c)
+share_for : (s : State) (to : ℕ) (a b : Bool) (target source : Option ℕ) → share_by s to (root_by a target) (held_by b source) ≡ share_with s to (a && b) source target
+share_for s to false b target source = refl
+share_for s to true false target source = refl
+share_for s to true true target None = refl
+share_for s to true true target (Some k) = refl
 
--- ---- release, by: the root in range, what is under it
-abbrev pub release_by : State → ℕ → Bool → Option ℕ → Said × State
-release_by s root range held =
-    elim range [
-      | false ↦ (refused RootRange, s)
-      | true ↦ elim held [
-        | None ↦ (refused RootEmpty, s)
-        | Some k ↦ (done, with_root s (sharing.release s.memory k) root None)
-      ]
-    ]
+pub shared_is : (s : State) (to from : ℕ) (target : Result (Option ℕ) Refusal) (source : Result ℕ Refusal) → target ≡ root_in s to → source ≡ held_in s from → share_by s to target source ≡ shared s to from
+shared_is s to from target source a b =
+    ap₂ (λ (x : Result (Option ℕ) Refusal) (y : Result ℕ Refusal). share_by s to x y) a b
+    ∙ share_for s to (ltb to 32) (ltb from 32) (root_at s to) (root_at s from)
 
-pub emptied_is : (s : State) (root : ℕ) (range : Bool) (held : Option ℕ) → ltb root 32 ≡ range → root_at s root ≡ held → release_by s root range held ≡ emptied s root
-emptied_is s root range held a b =
-    sym (ap (λ (x : Bool). release_by s root x (root_at s root)) a ∙ ap (λ (x : Option ℕ). release_by s root range x) b)
-
--- ---- reading, by: the root in range, what is under it, whether that is Flat
-abbrev pub read_by : State → Bool → Option ℕ → Said
-read_by s range held = elim range [ false ↦ refused RootRange | true ↦ elim held [ None ↦ refused RootEmpty | Some k ↦ handed s.memory k ] ]
-
-pub read_is : (s : State) (root : ℕ) (range : Bool) (held : Option ℕ) → ltb root 32 ≡ range → root_at s root ≡ held → read_by s range held ≡ read_out s root
-read_is s root range held a b =
-    sym (ap (λ (x : Bool). read_by s x (root_at s root)) a ∙ ap (λ (x : Option ℕ). read_by s range x) b)
-
+-- ---- reading, by: whether the array is Flat
 abbrev pub hand_by : Memory → ℕ → Bool → Said
 hand_by m k flat = elim flat [ true ↦ rows (node_at m k).kind (node_at m k).len (start_at m.nodes k) (run_of m k) | false ↦ refused NotFlat ]
 
 pub handed_is : (m : Memory) (k : ℕ) (flat : Bool) → eqb (node_at m k).encoding 1 ≡ flat → hand_by m k flat ≡ handed m k
 handed_is m k flat e = sym (ap (λ (x : Bool). hand_by m k x) e)
 
--- ---- making, by: the bytes' number, the root in range, what is under it, the rows
-abbrev pub make_by : Kinds → State → ℕ → ℕ → ℕ → Bool → Bool → Option ℕ → Option (List Row) → Said × State
-make_by ks s root kind n size range held rs =
+-- ---- making, by: the bytes' number, what is under the root, the rows
+abbrev pub make_by : Kinds → State → ℕ → ℕ → ℕ → Bool → Result (Option ℕ) Refusal → Option (List Row) → Said × State
+make_by ks s root kind n size target rs =
+    elim size [
+      | false ↦ (refused Line, s)
+      | true ↦ elim target [
+        | Err e ↦ (refused e, s)
+        | Ok held ↦ elim held [
+          | Some k ↦ (refused RootTaken, s)
+          | None ↦ elim rs [
+            | None ↦ (refused Field, s)
+            | Some xs ↦ placed s root (built ks s.memory kind n xs)
+          ]
+        ]
+      ]
+    ]
+
+abbrev make_with : Kinds → State → ℕ → ℕ → ℕ → Bool → Bool → Option ℕ → Option (List Row) → Said × State
+make_with ks s root kind n size range held rs =
     elim size [
       | false ↦ (refused Line, s)
       | true ↦ elim range [
@@ -83,12 +143,16 @@ make_by ks s root kind n size range held rs =
       ]
     ]
 
-pub made_is : (ks : Kinds) (s : State) (root kind n : ℕ) (bytes : List ℕ) (size range : Bool) (held : Option ℕ) (rs : Option (List Row)) → sized ks kind n bytes ≡ size → ltb root 32 ≡ range → root_at s root ≡ held → rows_made ks kind n bytes ≡ rs → make_by ks s root kind n size range held rs ≡ made ks s root kind n bytes
-made_is ks s root kind n bytes size range held rs a b c d =
-    sym (ap (λ (x : Bool). make_by ks s root kind n x (ltb root 32) (root_at s root) (rows_made ks kind n bytes)) a
-    ∙ ap (λ (x : Bool). make_by ks s root kind n size x (root_at s root) (rows_made ks kind n bytes)) b
-    ∙ ap (λ (x : Option ℕ). make_by ks s root kind n size range x (rows_made ks kind n bytes)) c
-    ∙ ap (λ (x : Option (List Row)). make_by ks s root kind n size range held x) d)
+make_for : (ks : Kinds) (s : State) (root kind n : ℕ) (size range : Bool) (held : Option ℕ) (rs : Option (List Row)) → make_by ks s root kind n size (root_by range held) rs ≡ make_with ks s root kind n size range held rs
+make_for ks s root kind n false range held rs = refl
+make_for ks s root kind n true false held rs = refl
+make_for ks s root kind n true true held rs = refl
+
+pub made_is : (ks : Kinds) (s : State) (root kind n : ℕ) (bytes : List ℕ) (size : Bool) (target : Result (Option ℕ) Refusal) (rs : Option (List Row)) → sized ks kind n bytes ≡ size → target ≡ root_in s root → rows_made ks kind n bytes ≡ rs → make_by ks s root kind n size target rs ≡ made ks s root kind n bytes
+made_is ks s root kind n bytes size target rs a b c =
+    sym (ap (λ (x : Bool). make_by ks s root kind n x target (rows_made ks kind n bytes)) a ∙ ap (λ (x : Option (List Row)). make_by ks s root kind n size target x) c)
+    ∙ ap (λ (x : Result (Option ℕ) Refusal). make_by ks s root kind n (sized ks kind n bytes) x (rows_made ks kind n bytes)) b
+    ∙ make_for ks s root kind n (sized ks kind n bytes) (ltb root 32) (root_at s root) (rows_made ks kind n bytes)
 
 -- a root that is taken refuses, whatever it holds
 pub taken_by : {X : Type 0} (x : X) (y : X) (o : Option ℕ) → is_some o ≡ true → x ≡ elim o [ Some k ↦ x | None ↦ y ]

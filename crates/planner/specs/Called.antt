@@ -6,6 +6,7 @@ use Rattle.pool.specs.declared.node.PoolFault.{PoolFault}
 use Rattle.pool.specs.Memory.{Memory, empty_memory, node_at, start_at, run_of}
 use Rattle.pool.specs.Sharing as sharing
 use Rattle.pool.specs.Building.{built}
+use Rattle.planner.specs.declared.call.Refusal.{Refusal}
 use Rattle.planner.specs.declared.call.Refusal.TheVariants.{Line, RootRange, RootEmpty, RootTaken, Field, Pool, NotFlat}
 use Rattle.planner.specs.Calls.{Told, make, share, release, read, Said, done, rows, refused}
 
@@ -21,6 +22,14 @@ new_state = record { memory = empty_memory; roots = replicate 32 None }
 abbrev pub root_at : State → ℕ → Option ℕ
 root_at s r = slice_index_or s.roots r None
 
+-- the node under a root that exists, if any
+abbrev pub root_in : State → ℕ → Result (Option ℕ) Refusal
+root_in s r = elim (nat_lt r 32) [ true ↦ Ok (root_at s r) | false ↦ Err RootRange ]
+
+-- the node under a root that exists and is not empty
+abbrev pub held_in : State → ℕ → Result ℕ Refusal
+held_in s r = elim (nat_lt r 32) [ true ↦ elim (root_at s r) [ None ↦ Err RootEmpty | Some k ↦ Ok k ] | false ↦ Err RootRange ]
+
 -- the state with another memory and another node, or none, under a root
 abbrev pub with_root : State → Memory → ℕ → Option ℕ → State
 with_root s m r o = record { memory = m; roots = slice_set s.roots r o }
@@ -33,6 +42,10 @@ parsed_rows kd (suc n) bs =
       | None ↦ None
       | Some r ↦ elim (parsed_rows kd n (drop kd.width bs)) [ None ↦ None | Some rs ↦ Some (r ∷ rs) ]
     ]
+
+-- row k of those that bytes stand for, if its own stand for one
+abbrev pub parsed_row : Kind → List ℕ → ℕ → Option Row
+parsed_row kd bs k = kd.parsed (take kd.width (drop (k * kd.width) bs))
 
 -- a kind that exists, and at most 1,024 rows
 abbrev pub in_range : Kinds → ℕ → ℕ → Bool

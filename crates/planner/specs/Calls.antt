@@ -1,10 +1,10 @@
 -- Calls and answers as values.
-use Rattle.std.specs.Prelude.{ℕ, List, ◌++◌}
+use Rattle.std.specs.Prelude.{ℕ, List, ◌++◌, Ok, Err, Result}
 use Rattle.planner.specs.declared.call.Call.{Call}
 use Rattle.planner.specs.declared.call.Call.TheVariants.{Make, Share, Release, Read}
 use Rattle.planner.specs.declared.call.Refusal.{Refusal}
-use Rattle.planner.specs.declared.call.Answer.{Answer}
-use Rattle.planner.specs.declared.call.Answer.TheVariants.{Done, Rows, Refused}
+use Rattle.planner.specs.declared.call.Reply.{Reply}
+use Rattle.planner.specs.declared.call.Reply.TheVariants.{Done, Rows}
 
 -- a call, with what it borrows in full
 pub data Told : Type 0 where
@@ -25,10 +25,10 @@ told (Share to from) = share to from
 told (Release root) = release root
 told (Read root) = read root
 
-abbrev pub said : Answer → Said
-said Done = done
-said (Rows r) = rows r.kind r.len r.place r.words.now
-said (Refused e) = refused e
+abbrev pub said : Result Reply Refusal → Said
+said (Ok Done) = done
+said (Ok (Rows r)) = rows r.kind r.len r.place r.words.now
+said (Err e) = refused e
 
 -- A listener that was a is now b, since it has heard these answers more: whatever it may have heard before, it may have
 -- heard that and these.

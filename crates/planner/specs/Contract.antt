@@ -1,12 +1,15 @@
 -- What every public call of a planner promises.
 use Rattle.std.specs.Prelude.{◌≡◌, ℕ, ◌+◌, List, [], ◌∷◌, ◌++◌, Some, None, Ok, Err, Option, Result}
 use Rattle.std.specs.Option.{unwrap_or}
+use Rattle.std.specs.Fn.{FnOnceReturns, Once}
+use Rattle.std.specs.Borrow.{Bor, MutBor}
 use Rattle.rows.specs.declared.row.Row.{Row}
 use Rattle.rows.specs.Kind.{Kind, Kinds}
 use Rattle.encodings.specs.Meaning.{Encodings}
 use Rattle.planner.specs.declared.call.Refusal.{Refusal}
+use Rattle.planner.specs.declared.call.Reply.{Reply}
 use Rattle.planner.specs.declared.call.Reading.{Reading}
-use Rattle.planner.specs.Calls.{Told, Said, done, rows, refused}
+use Rattle.planner.specs.Calls.{Told, Said, said, done, rows, refused}
 use Rattle.planner.specs.Called.{State, parsed_rows, called}
 use Rattle.planner.specs.Law.{History, state_after, Reached, Extends}
 
@@ -28,6 +31,10 @@ rows_parsed kd n bytes = unwrap_or (parsed_rows kd n bytes) []
 pub record Does (ks : Kinds) (es : Encodings) (s : State) (c : Told) (a : Said) (t : State) : Type 0 where
   pub value : (a, t) ≡ called ks s c
   pub law : (h : History) → Reached ks h s → Extends ks es h c a t
+
+-- The function f was given the kinds, an answer that says a, and the value x, which it gave back as y with the result r.
+abbrev pub Handed : {K S R F : Type 0} → Once F (Bor K × (Result Reply Refusal × (MutBor S × Unit {0}))) (R × (MutBor S × Unit {0})) → F → K → Said → S → R → S → Type 0
+Handed {K} {S} g f kinds a x r y = (k : Bor K) × (b : Result Reply Refusal) × (from to : MutBor S) × (k.now ≡ kinds) × (said b ≡ a) × (from.now ≡ x) × (to.now ≡ y) × FnOnceReturns g f (k, (b, (from, tt))) (r, (to, tt))
 
 -- the history of a list of calls on a new planner, the first call first
 abbrev pub played : Kinds → History → List Told → History

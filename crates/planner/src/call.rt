@@ -3,7 +3,7 @@ ghost use Rattle.planner.specs.declared.call.Refusal.TheVariants.{Pool};
 
 use pool::node::PoolFault;
 
-// One call, with its numbers as they came.
+// One call, with its numbers as they came. They may be out of range, so that refusing them is an answer like others.
 #[derive(Clone, Copy)]
 pub enum Call<'a> {
     // a Flat array of `len` rows of a kind under a root; its rows as the bytes of a line, none where kind or length
@@ -58,10 +58,12 @@ pub struct Reading<'a> {
     pub words: &'a [u32],
 }
 
-// What a call is answered.
+// What a call that is accepted gives.
 #[derive(Clone, Copy)]
-pub enum Answer<'a> {
+pub enum Reply<'a> {
     Done,
     Rows(Reading<'a>),
-    Refused(Refusal),
 }
+
+// What a call is answered.
+pub type Answer<'a> = Result<Reply<'a>, Refusal>;

@@ -9,4 +9,5 @@ pub mod planner;
 pub mod read;
 pub mod replay;
 pub mod roots;
+pub mod session;
 pub mod tally;

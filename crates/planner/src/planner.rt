@@ -3,17 +3,15 @@ ghost use Rattle.pool.specs.Counts.{names, Counts, Heights};
 ghost use Rattle.pool.specs.Order.{Low, Eight, Within, Slotless, Cleared};
 ghost use Rattle.planner.specs.Invariant.{Disjoint, Vacant};
 
-use pool::node::Node;
-use pool::pool::{NODES, Pool, WORDS};
+use crate::session::Session;
+use pool::pool::{Pool, Tables};
 use std::mem::size_of;
 
 // The number of roots.
 pub const ROOTS: usize = 32;
 
 // The bytes of all tables: nodes, words and roots.
-pub const TABLE_BYTES: usize = NODES * size_of::<Node>()
-    + WORDS * size_of::<u32>()
-    + ROOTS * size_of::<Option<u8>>();
+pub const TABLE_BYTES: usize = size_of::<Tables>() + size_of::<[Option<u8>; ROOTS]>();
 
 // The bytes of all tables, which fit 64 KiB.
 pub fn table_bytes() -> usize
@@ -23,16 +21,14 @@ pub fn table_bytes() -> usize
     TABLE_BYTES
 }
 
-// A pool and the roots that hold its arrays, over a set of row kinds, a set of encodings, a bank and a matcher. The
-// ghost fields say that the pool is in order, with the roots for its only holders.
+// A pool and the roots that hold its arrays, over what its session gives. The ghost fields say that the pool is in
+// order, with the roots for its only holders.
 #[derive(Drop)]
 pub struct Planner<'a, K, E, B, M> {
     pub pool: Pool<'a>,
+    // the node of each root's array, by number as in a slot
     pub roots: [Option<u8>; ROOTS],
-    pub kinds: K,
-    pub encodings: E,
-    pub bank: B,
-    pub matcher: M,
+    pub session: Session<K, E, B, M>,
     ghost roots_long: { length roots ≡ 32 },
     ghost nodes_long: { length pool.nodes.now ≡ 256 },
     ghost words_long: { length pool.words.now ≡ 8192 },

@@ -6,7 +6,7 @@ ghost use Rattle.planner.specs.Law.{History, Reached, Law};
 ghost use Rattle.planner.specs.Seen.{state_of, Answers};
 
 use crate::call::{Reading, Refusal};
-use crate::planner::{Planner, ROOTS};
+use crate::planner::Planner;
 use encodings::encoding::Encoding;
 use encodings::matcher::Matcher;
 use optimizer::Bank;
@@ -26,12 +26,7 @@ impl<K: RowKinds, E: Encoding, B: Bank, M: Matcher> Planner<'_, K, E, B, M> {
     pub fn read(&self, root: u8) -> Result<Reading<'_>, Refusal>
         ensures { Answers K.RowKinds.kinds E.Encoding.means self.now self.now (read root) (read_outcome result) }
     {
-        if root as usize >= ROOTS {
-            return Err(Refusal::RootRange);
-        }
-        let Some(n) = self.root(root) else {
-            return Err(Refusal::RootEmpty);
-        };
+        let n = self.held(root)?;
         let node = self.pool.nodes[n as usize];
         if node.encoding != FLAT {
             return Err(Refusal::NotFlat);
@@ -50,16 +45,10 @@ impl<K: RowKinds, E: Encoding, B: Bank, M: Matcher> Planner<'_, K, E, B, M> {
         ensures roots { result.roots ≡ roots_used self.now.roots }
         ensures nodes { result.nodes ≡ nodes_used self.now.pool.nodes.now }
         ensures words { result.words ≡ words_used self.now.pool.nodes.now }
-        ensures law { (h : History) → Reached (K.RowKinds.kinds self.now.kinds) h (state_of self.now) → Law (K.RowKinds.kinds self.now.kinds) (E.Encoding.means self.now.encodings (K.RowKinds.kinds self.now.kinds)) h }
+        ensures law { (h : History) → Reached (K.RowKinds.kinds self.now.session.kinds) h (state_of self.now) → Law (K.RowKinds.kinds self.now.session.kinds) (E.Encoding.means self.now.session.encodings (K.RowKinds.kinds self.now.session.kinds)) h }
     {
-        let mut roots = 0;
-        for root in self.roots {
-            if let Some(_) = root {
-                roots += 1;
-            }
-        }
         Usage {
-            roots,
+            roots: self.roots.iter().filter(|root| root.is_some()).count(),
             nodes: self.pool.nodes_used(),
             words: self.pool.words_used(),
         }

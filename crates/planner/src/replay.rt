@@ -1,26 +1,33 @@
 ghost use Rattle.std.specs.Prelude.{[], ◌∷◌, map};
 ghost use Rattle.planner.specs.Called.{called};
 ghost use Rattle.planner.specs.Calls.{told, Hears};
-ghost use Rattle.planner.specs.Contract.{played, answers};
+ghost use Rattle.planner.specs.Contract.{Handed, played, answers};
 ghost use Rattle.planner.specs.Law.{Law};
 ghost use Rattle.planner.specs.Seen.{state_of, Answers};
 
 use crate::answer::{answer, read_answer};
-use crate::call::Call;
+use crate::call::{Answer, Call};
 use crate::listener::Listener;
 use crate::planner::Planner;
+use crate::session::Session;
 use encodings::encoding::Encoding;
 use encodings::matcher::Matcher;
 use optimizer::Bank;
-use pool::node::Node;
-use pool::pool::{NODES, WORDS};
+use pool::pool::Tables;
 use rows::kinds::RowKinds;
 
 impl<K: RowKinds, E: Encoding, B: Bank, M: Matcher> Planner<'_, K, E, B, M> {
-    // One call, and its answer handed to a listener.
-    pub fn serve<L: Listener>(&mut self, call: Call, listener: &mut L)
-        ensures heard { Hears L.Listener.hears listener.old listener.new ((called (K.RowKinds.kinds self.old.kinds) (state_of self.old) (told call.entry)).0 ∷ []) }
-        ensures answers { Answers K.RowKinds.kinds E.Encoding.means self.old self.new (told call.entry) (called (K.RowKinds.kinds self.old.kinds) (state_of self.old) (told call.entry)).0 }
+    // Makes one call, and hands its answer, which may lend words of the pool, to `hand`, with the row kinds and `out`.
+    // This is the one place that tells calls apart by what they do.
+    pub fn answer_with<S, R, F: FnOnce(&K, Answer, &mut S) -> R>(
+        &mut self,
+        call: Call,
+        out: &mut S,
+        hand: F,
+    ) -> R
+        requires { F.IsAlwaysCallable hand }
+        ensures handed { Handed F.FnOnce hand self.old.session.kinds (called (K.RowKinds.kinds self.old.session.kinds) (state_of self.old) (told call.entry)).0 out.old result out.new }
+        ensures answers { Answers K.RowKinds.kinds E.Encoding.means self.old self.new (told call.entry) (called (K.RowKinds.kinds self.old.session.kinds) (state_of self.old) (told call.entry)).0 }
     {
         match call {
             Call::Make {
@@ -29,22 +36,27 @@ impl<K: RowKinds, E: Encoding, B: Bank, M: Matcher> Planner<'_, K, E, B, M> {
                 len,
                 rows,
             } => {
-                let result = self.make(root, kind, len, rows);
-                listener.hear(answer(result));
+                let res = self.make(root, kind, len, rows);
+                hand(&self.session.kinds, answer(res), out)
             }
             Call::Share { to, from } => {
-                let result = self.share(to, from);
-                listener.hear(answer(result));
+                let res = self.share(to, from);
+                hand(&self.session.kinds, answer(res), out)
             }
             Call::Release { root } => {
-                let result = self.release(root);
-                listener.hear(answer(result));
+                let res = self.release(root);
+                hand(&self.session.kinds, answer(res), out)
             }
-            Call::Read { root } => {
-                let result = self.read(root);
-                listener.hear(read_answer(result));
-            }
+            Call::Read { root } => hand(&self.session.kinds, read_answer(self.read(root)), out),
         }
+    }
+
+    // One call, and its answer handed to a listener.
+    pub fn serve<L: Listener>(&mut self, call: Call, listener: &mut L)
+        ensures heard { Hears L.Listener.hears listener.old listener.new ((called (K.RowKinds.kinds self.old.session.kinds) (state_of self.old) (told call.entry)).0 ∷ []) }
+        ensures answers { Answers K.RowKinds.kinds E.Encoding.means self.old self.new (told call.entry) (called (K.RowKinds.kinds self.old.session.kinds) (state_of self.old) (told call.entry)).0 }
+    {
+        self.answer_with(call, listener, |_, answer, listener| listener.hear(answer));
     }
 }
 
@@ -55,20 +67,11 @@ pub fn replay<
     B: Bank + Drop,
     M: Matcher + Drop,
     L: Listener,
->(
-    nodes: &mut [Node; NODES],
-    words: &mut [u32; WORDS],
-    kinds: K,
-    encodings: E,
-    bank: B,
-    matcher: M,
-    calls: &[Call],
-    listener: &mut L,
-)
-    ensures heard { Hears L.Listener.hears listener.old listener.new (answers (played (K.RowKinds.kinds kinds) [] (map told calls.now))) }
-    ensures law { Law (K.RowKinds.kinds kinds) (E.Encoding.means encodings (K.RowKinds.kinds kinds)) (played (K.RowKinds.kinds kinds) [] (map told calls.now)) }
+>(tables: &mut Tables, session: Session<K, E, B, M>, calls: &[Call], listener: &mut L)
+    ensures heard { Hears L.Listener.hears listener.old listener.new (answers (played (K.RowKinds.kinds session.kinds) [] (map told calls.now))) }
+    ensures law { Law (K.RowKinds.kinds session.kinds) (E.Encoding.means session.encodings (K.RowKinds.kinds session.kinds)) (played (K.RowKinds.kinds session.kinds) [] (map told calls.now)) }
 {
-    let mut planner = Planner::new(nodes, words, kinds, encodings, bank, matcher);
+    let mut planner = Planner::new(tables, session);
     for call in calls {
         planner.serve(*call, listener);
     }

@@ -6,7 +6,7 @@ use crate::call::Answer;
 use crate::listener::Listener;
 
 // A listener that counts the answers.
-#[derive(Clone, Copy, PartialEq, Eq, Debug)]
+#[derive(Clone, Copy, PartialEq, Eq, Debug, Default)]
 pub struct Tally {
     pub accepted: u32,
     pub refused: u32,

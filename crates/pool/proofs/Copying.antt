@@ -1,6 +1,6 @@
 -- Slots retained, a node put in another's place, and the copy of a node that is shared.
-use Rattle.std.proofs.Common.{◌≡◌, ℕ, suc, ◌+◌, ◌-◌, ◌<◌, ◌≤◌, Bool, true, false, eqb, ◌⊎◌, List, [], ◌∷◌, ◌++◌, length, get_or, set, Some, None, Ok, Err, Option, Result, sym, refl, ap, ◌∙◌, inl, inr, ⊎_elim, arith}
-use Rattle.std.proofs.lemmas.List.{length-set, get_or-set_same}
+use Rattle.std.proofs.Common.{◌≡◌, ℕ, suc, ◌+◌, ◌-◌, ◌<◌, ◌≤◌, Bool, true, false, eqb, fold, ◌⊎◌, List, [], ◌∷◌, ◌++◌, length, get_or, set, Some, None, Ok, Err, Option, Result, sym, refl, ap, ◌∙◌, subst, inl, inr, ⊎_elim, arith}
+use Rattle.std.proofs.lemmas.List.{length-append, length-set, get_or-set_same}
 use Rattle.std.proofs.lemmas.Bool.{eqb-true, eqb-false}
 use Rattle.pool.specs.declared.node.Node.{Node}
 use Rattle.pool.specs.declared.node.PoolFault.{PoolFault}
@@ -12,6 +12,7 @@ use Rattle.pool.specs.Sharing.{recounted, retained, each_slot}
 use Rattle.pool.specs.Finding.{lowest_free, LowestNode}
 use Rattle.pool.specs.Slots.{owned, Crowded}
 use Rattle.pool.proofs.Counted.{times_append, times_here, named_at, names_used, names_free, named_used, in_range, set_cases, put_counts, counts_like, recount, more_counts, owed_used, owed_in, less_counts, tallest_same}
+use Rattle.pool.proofs.Naming.{names_long}
 use Rattle.pool.proofs.Spared.{Spared, KeptAt, same, gone, spared_refl, spared_trans, spared_same, spared_ordered, recount_spared}
 use Rattle.pool.proofs.Found.{lowest_free_is}
 
@@ -61,22 +62,21 @@ all_retained m (Some c ∷ ss) u =
       more = λ k. omega (arith, r.more k, (retained_more m c k v).0);
     }
 
--- ---- the loop of `retain_slots`
-pub record Retaining (entry m : Memory) (all rest : List (Option ℕ)) (left : ℕ) : Type 0 where
-  pub used : Used m.nodes rest
-  pub room : (k : ℕ) → count_at m.nodes k + left < 65536
-  pub gives : each_slot retained m rest ≡ each_slot retained entry all
+-- c is in use where xs, which stand before it, are retained, and its count has risen by at most 1 for each
+retained_before : (m : Memory) (xs rest : List ℕ) (c : ℕ) → ((k : ℕ) → 0 < times k (xs ++ (c ∷ rest)) → 0 < count_at m.nodes k)
+    → (0 < count_at (fold retained m xs).nodes c) × (count_at (fold retained m xs).nodes c ≤ count_at m.nodes c + length xs)
+retained_before m [] rest c u = (u c (times_here c rest), omega arith)
+retained_before m (x ∷ xs) rest c u =
+    let v = u x (times_here x (xs ++ (c ∷ rest))) in
+    let r = retained_before (retained m x) xs rest c (λ k h. omega (arith, u k (omega arith), (retained_more m x k v).0)) in
+    (r.0, omega (arith, r.1, (retained_more m x c v).1))
 
-pub retaining_none : (entry m : Memory) (all rest : List (Option ℕ)) (left : ℕ) → Retaining entry m all (None ∷ rest) (suc left) → Retaining entry m all rest left
-retaining_none entry m all rest left r = record { used = r.used; room = λ k. omega (arith, r.room k); gives = r.gives }
-
-pub retaining_some : (entry m : Memory) (all rest : List (Option ℕ)) (left c : ℕ) → Retaining entry m all (Some c ∷ rest) (suc left) → Retaining entry (retained m c) all rest left
-retaining_some entry m all rest left c r =
-    record {
-      used = used_more m c rest r.used;
-      room = λ k. omega (arith, r.room k, (retained_more m c k (r.used c (times_here c (names rest)))).1);
-      gives = r.gives;
-    }
+pub retain_next : (m : Memory) (ss : List (Option ℕ)) → Used m.nodes ss → (xs rest : List ℕ) (c : ℕ) → names ss ≡ xs ++ (c ∷ rest) → (b : Memory) → b ≡ fold retained m xs
+    → (0 < count_at b.nodes c) × (count_at b.nodes c < count_at m.nodes c + length ss)
+retain_next m ss u xs rest c split b e =
+    let r = retained_before m xs rest c (λ k h. u k (subst (λ (cs : List ℕ). 0 < times k cs) (sym split) h)) in
+    let q = ap (λ (x : Memory). count_at x.nodes c) e in
+    (omega (arith, q, r.0), omega (arith, q, r.1, names_long ss, ap length split, length-append xs (c ∷ rest)))
 
 -- ---- nodes as they were, step by step
 pub same_trans : (m q r : Memory) (k : ℕ) → SameAt m q k → SameAt q r k → SameAt m r k

@@ -143,35 +143,37 @@ heights_falling ns hs counts heights k c h =
     let u = names_use c (get_or ns k blank) h in
     omega (arith, heights k u, tallest_at ns (slots_at ns k) c (omega (arith, names_used c (get_or ns k blank) u)))
 
--- above the heights of all that the slots name
-abbrev pub above : List Node → List (Option ℕ) → ℕ
+-- above the heights of all that are listed
+abbrev pub above : List Node → List ℕ → ℕ
 above ns [] = 0
-above ns (None ∷ ss) = above ns ss
-above ns (Some c ∷ ss) = max (suc (height_at ns c)) (above ns ss)
+above ns (c ∷ cs) = max (suc (height_at ns c)) (above ns cs)
 
-pub above_tallest : (ns : List Node) (ss : List (Option ℕ)) → above ns ss ≤ suc (tallest ns ss)
+pub above_tallest : (ns : List Node) (ss : List (Option ℕ)) → above ns (names ss) ≤ suc (tallest ns ss)
 above_tallest ns [] = omega arith
 above_tallest ns (None ∷ ss) = above_tallest ns ss
 above_tallest ns (Some c ∷ ss) = omega (arith, above_tallest ns ss)
 
-pub tallest_above : (ns : List Node) (ss : List (Option ℕ)) → tallest ns ss < max 1 (above ns ss)
+pub tallest_above : (ns : List Node) (ss : List (Option ℕ)) → tallest ns ss < max 1 (above ns (names ss))
 tallest_above ns [] = omega arith
 tallest_above ns (None ∷ ss) = tallest_above ns ss
 tallest_above ns (Some c ∷ ss) = omega (arith, tallest_above ns ss)
 
-pub above_lower : (a b : List Node) → ((k : ℕ) → height_at b k ≤ height_at a k) → (ss : List (Option ℕ)) → above b ss ≤ above a ss
+pub above_lower : (a b : List Node) → ((k : ℕ) → height_at b k ≤ height_at a k) → (cs : List ℕ) → above b cs ≤ above a cs
 above_lower a b e [] = omega arith
-above_lower a b e (None ∷ ss) = above_lower a b e ss
-above_lower a b e (Some c ∷ ss) = omega (arith, e c, above_lower a b e ss)
+above_lower a b e (c ∷ cs) = omega (arith, e c, above_lower a b e cs)
 
-pub above_below : (ns : List Node) (ss : List (Option ℕ)) (h : ℕ) → ((c : ℕ) → 0 < times c (names ss) → height_at ns c < h) → above ns ss ≤ h
+above_below : (ns : List Node) (cs : List ℕ) (h : ℕ) → ((c : ℕ) → 0 < times c cs → height_at ns c < h) → above ns cs ≤ h
 above_below ns [] h p = omega arith
-above_below ns (None ∷ ss) h p = above_below ns ss h p
-above_below ns (Some c ∷ ss) h p = omega (arith, p c (times_here c (names ss)), above_below ns ss h (λ d q. p d (omega arith)))
+above_below ns (c ∷ cs) h p = omega (arith, p c (times_here c cs), above_below ns cs h (λ d q. p d (omega arith)))
+
+-- what stands before c is at most as high, and c is in the list
+pub above_split : (ns : List Node) (xs rest : List ℕ) (c : ℕ) → (above ns xs ≤ above ns (xs ++ (c ∷ rest))) × (height_at ns c < above ns (xs ++ (c ∷ rest)))
+above_split ns [] rest c = (omega arith, omega arith)
+above_split ns (x ∷ xs) rest c = let r = above_split ns xs rest c in (omega arith, omega arith)
 
 -- the slots of a node in use
-pub above_slots : (ns : List Node) (n : ℕ) → Falling ns → 0 < count_at ns n → above ns (slots_at ns n) ≤ height_at ns n
-above_slots ns n f u = above_below ns (slots_at ns n) (height_at ns n) (λ c h. f n c (omega (arith, names_used c (get_or ns n blank) u)))
+pub above_slots : (ns : List Node) (n : ℕ) → Falling ns → 0 < count_at ns n → above ns (names (slots_at ns n)) ≤ height_at ns n
+above_slots ns n f u = above_below ns (names (slots_at ns n)) (height_at ns n) (λ c h. f n c (omega (arith, names_used c (get_or ns n blank) u)))
 
 -- ---- how high a count can be
 pub names_most : (k : ℕ) (ss : List (Option ℕ)) → times k (names ss) ≤ length ss

@@ -1,27 +1,11 @@
 -- The lowest free node, and the lowest run of unused words.
-use Rattle.std.proofs.Common.{◌≡◌, ℕ, zero, suc, ◌+◌, ◌-◌, ◌<◌, ◌≤◌, min, max, Bool, true, false, eqb, List, [], ◌∷◌, length, get_or, drop, Some, None, Option, sym, refl, ap, ◌∙◌, subst, ap₂, ⊎_elim, arith}
-use Rattle.std.proofs.lemmas.List.{at_drop_more, at_drop_all}
-use Rattle.std.proofs.lemmas.Bool.{cases_Bool, cases_lt, eq-eqb, ne_eqb, eqb-true, eqb-false, lt-ltb, le-ltb, ltb-true, true≢false}
+use Rattle.std.proofs.Common.{◌≡◌, ℕ, zero, suc, ◌+◌, ◌-◌, ◌<◌, ◌≤◌, min, max, Bool, true, false, eqb, List, [], ◌∷◌, length, Some, None, Option, sym, refl, ap, ◌∙◌, subst, ap₂, ⊎_elim, arith}
+use Rattle.std.proofs.lemmas.Bool.{cases_Bool, cases_lt, eqb-true, eqb-false, lt-ltb, le-ltb, ltb-true, true≢false}
 use Rattle.pool.specs.declared.node.Node.{Node}
 use Rattle.pool.specs.Memory.{Memory, count_at, start_at, run_at}
 use Rattle.pool.specs.Finding.{lowest_free, meets, unused, lowest_run, find_run, Room, Lowest, LowestNode}
 
 -- ---- nodes
--- the search at a list that begins with a node, by the test of that node
-first : List Node → ℕ → Bool → Option ℕ
-first ns i b = elim b [ true ↦ Some i | false ↦ lowest_free ns (i + 1) ]
-
-pub free_here : (ns : List Node) (i : ℕ) (d : Node) → i < length ns → (get_or ns i d).count ≡ 0 → lowest_free (drop i ns) i ≡ Some i
-unfolding first
-free_here ns i d h e = at_drop_more (λ l. lowest_free l i) ns i d h ∙ ap (first (drop (i + 1) ns) i) (eq-eqb (get_or ns i d).count 0 e)
-
-pub free_next : (ns : List Node) (i : ℕ) (d : Node) → i < length ns → ((get_or ns i d).count ≡ 0 → ⊥) → lowest_free (drop i ns) i ≡ lowest_free (drop (i + 1) ns) (i + 1)
-unfolding first
-free_next ns i d h e = at_drop_more (λ l. lowest_free l i) ns i d h ∙ ap (first (drop (i + 1) ns) i) (ne_eqb (get_or ns i d).count 0 e)
-
-pub free_none : (ns : List Node) (i : ℕ) → length ns ≤ i → lowest_free (drop i ns) i ≡ None
-free_none ns i h = at_drop_all (λ l. lowest_free l i) ns i h
-
 -- the same of a list of which the first is number b
 NodeFrom : List Node → ℕ → Option ℕ → Type 0
 NodeFrom ns b None = (k : ℕ) → k < length ns → 0 < count_at ns k
@@ -58,6 +42,13 @@ lowest_free_is ns = go (lowest_free ns 0) (node_from ns 0)
         let z : i - 0 ≡ i = omega arith in
         (omega arith, ap (λ (j : ℕ). count_at ns j) (sym z) ∙ h.2, λ k l. h.3 k (omega arith))
 
+-- only one answer is the lowest
+pub lowest_one : (ns : List Node) (a b : Option ℕ) → LowestNode ns a → LowestNode ns b → a ≡ b
+lowest_one ns None None p q = refl
+lowest_one ns None (Some j) p q = absurd (omega (arith, p j q.0, q.1))
+lowest_one ns (Some i) None p q = absurd (omega (arith, q i p.0, p.1))
+lowest_one ns (Some i) (Some j) p q = ap (λ (k : ℕ). Some k) (grind (arith, p.1, q.1, p.2 j, q.2 i))
+
 -- ---- runs
 -- one of the n words from `at` on is in the run
 abbrev pub Met : ℕ → ℕ → ℕ → ℕ → Type 0
@@ -75,12 +66,13 @@ met_parts nd at n e =
 after : List Node → ℕ → ℕ → Bool → Bool
 after ns at n b = elim b [ true ↦ false | false ↦ unused ns at n ]
 
-pub unused_next : (ns : List Node) (i at n : ℕ) (d : Node) → i < length ns → min (at + n) ((get_or ns i d).start + (get_or ns i d).run) ≤ max at (get_or ns i d).start → unused (drop i ns) at n ≡ unused (drop (i + 1) ns) at n
+-- no run meets the n words
+pub unused_clear : (ns : List Node) (at n : ℕ) → ((k : ℕ) → k < length ns → min (at + n) (start_at ns k + run_at ns k) ≤ max at (start_at ns k)) → unused ns at n ≡ true
 unfolding after
-unused_next ns i at n d h e = at_drop_more (λ l. unused l at n) ns i d h ∙ ap (after (drop (i + 1) ns) at n) (le-ltb (max at (get_or ns i d).start) (min (at + n) ((get_or ns i d).start + (get_or ns i d).run)) e)
-
-pub unused_all : (ns : List Node) (i at n : ℕ) → length ns ≤ i → unused (drop i ns) at n ≡ true
-unused_all ns i at n h = at_drop_all (λ l. unused l at n) ns i h
+unused_clear [] at n h = refl
+unused_clear (nd ∷ ns) at n h =
+    ap (after ns at n) (le-ltb (max at nd.start) (min (at + n) (nd.start + nd.run)) (h 0 (omega arith)))
+    ∙ unused_clear ns at n (λ k l. h (suc k) (omega arith))
 
 -- a run that meets the n words
 pub used_at : (ns : List Node) (at n k : ℕ) → Met (start_at ns k) (run_at ns k) at n → unused ns at n ≡ false
@@ -187,3 +179,6 @@ find_run_is m n = go (find_run m n) (find_run_from m n)
     go : (o : Option ℕ) → RunFrom m.nodes (suc (length m.words) - n) 0 n o → Lowest m n o
     go None h = λ s r. let i = r.inside in no_room m n s (h s (omega arith) (omega arith)) r
     go (Some s) h = (room_of m n s (omega arith) h.2, λ t l r. no_room m n t (h.3 t (omega arith) l) r)
+
+pub run_lowest : (m : Memory) (n : ℕ) (o : Option ℕ) → find_run m n ≡ o → Lowest m n o
+run_lowest m n o e = subst (λ (r : Option ℕ). Lowest m n r) e (find_run_is m n)

@@ -2,6 +2,7 @@ pub mod Building
 pub mod Copying
 pub mod Counted
 pub mod Found
+pub mod Naming
 pub mod Placing
 pub mod Reached
 pub mod Releasing

@@ -1,12 +1,14 @@
 -- A free node and free words take a node with a run.
-use Rattle.std.proofs.Common.{◌≡◌, ℕ, zero, suc, ◌+◌, ◌-◌, ◌<◌, ◌≤◌, min, max, eqb, ltb, ◌⊎◌, List, [], ◌∷◌, ◌++◌, length, get_or, take, drop, set, Some, None, Option, sym, refl, ap, ◌∙◌, ap₂, inl, inr, ⊎_elim, arith}
-use Rattle.std.proofs.lemmas.List.{length-set, length-take, length-take-le, length-drop, length-append, take-append-drop, take_at, drop_at, get_or-set_same, get_or-set_other, get_or_append_left, get_or-append_right, get_or-take, get_or-drop, ext_get_or}
-use Rattle.std.proofs.lemmas.Bool.{cases_lt, cases_eq, eq-eqb, ne_eqb, lt-ltb, le-ltb, cond-true, cond-false}
+use Rattle.std.proofs.Common.{◌≡◌, ℕ, ◌+◌, ◌<◌, ◌≤◌, ◌⊎◌, List, ◌∷◌, ◌++◌, length, get_or, take, drop, set, Option, sym, ap, ◌∙◌, ap₂, ⊎_elim, arith}
+use Rattle.std.proofs.lemmas.List.{length-set, length-take-le, take-append-drop, take_at, drop_at, get_or-set_same, get_or-set_other}
+use Rattle.std.proofs.lemmas.Bool.{cases_lt}
 use Rattle.pool.specs.declared.node.Node.{Node}
 use Rattle.pool.specs.Memory.{Memory, blank, no_slots, count_at, slots_at, start_at, run_at, with_count, part, overwritten}
-use Rattle.pool.specs.Counts.{names, times, names_of, named, Counts, Heights, tallest, Reaches, here, step}
+use Rattle.pool.specs.Counts.{names, times, Counts, Heights, tallest}
 use Rattle.pool.specs.Order.{Low, Eight, Within, Apart, Slotless, Freed, Cleared, Ordered, Keeps, Change}
 use Rattle.pool.specs.Finding.{Room}
+use Rattle.pool.proofs.Counted.{hit_same, hit_other, named_set, named_at, names_used, names_free, reached_used, set_cases, tallest_same}
+use Rattle.pool.proofs.Spared.{overwritten_long, overwritten_before, overwritten_after, part_apart}
 
 -- ---- words with others in the place of some
 module _ (ws : List ℕ) (s n : ℕ) (xs : List ℕ) (fits : s + n ≤ length ws) (whole : length xs ≡ n) where
@@ -14,9 +16,7 @@ module _ (ws : List ℕ) (s n : ℕ) (xs : List ℕ) (fits : s + n ≤ length ws
   front = length-take-le s ws (omega arith)
 
   pub over_long : length (overwritten ws s n xs) ≡ length ws
-  over_long =
-      length-append (take s ws) (xs ++ drop n (drop s ws))
-      ∙ omega (arith, front, length-append xs (drop n (drop s ws)), length-drop n (drop s ws), length-drop s ws)
+  over_long = overwritten_long ws s n xs fits whole
 
   pub over_part : part (overwritten ws s n xs) s n ≡ xs
   over_part = ap (λ (l : List ℕ). take n l) (drop_at (take s ws) (xs ++ drop n (drop s ws)) s front) ∙ take_at xs (drop n (drop s ws)) n whole
@@ -28,85 +28,22 @@ module _ (ws : List ℕ) (s n : ℕ) (xs : List ℕ) (fits : s + n ≤ length ws
       = ap (λ (l : List ℕ). drop n l) (drop_at (take s ws) (xs ++ drop n (drop s ws)) s front) ∙ drop_at xs (drop n (drop s ws)) n whole in
       ap₂ (λ (l r : List ℕ). l ++ (ys ++ r)) a b
 
-  over_below : (k : ℕ) → k < s → get_or (overwritten ws s n xs) k 0 ≡ get_or ws k 0
-  over_below k h = get_or_append_left (take s ws) (xs ++ drop n (drop s ws)) 0 k (omega (arith, front)) ∙ get_or-take s ws k 0 h
-
-  over_above : (k : ℕ) → s + n ≤ k → get_or (overwritten ws s n xs) k 0 ≡ get_or ws k 0
-  over_above k h =
-      let z : s + (n + (k - s - n)) ≡ k = omega arith in
-      get_or-append_right (take s ws) (xs ++ drop n (drop s ws)) s k 0 front (omega arith)
-      ∙ get_or-append_right xs (drop n (drop s ws)) n (k - s) 0 whole (omega arith)
-      ∙ get_or-drop n (drop s ws) (k - s - n) 0
-      ∙ get_or-drop s ws (n + (k - s - n)) 0
-      ∙ ap (λ (j : ℕ). get_or ws j 0) z
-
   pub over_other : (k : ℕ) → (s ≤ k → k < s + n → ⊥) → get_or (overwritten ws s n xs) k 0 ≡ get_or ws k 0
   over_other k out =
-      ⊎_elim (λ a. over_below k a) (λ a. ⊎_elim (λ b. absurd (out a b)) (λ b. over_above k b) (cases_lt k (s + n))) (cases_lt k s)
-
-  -- a run that has none of those words is as it was
-  pub over_apart : (t r : ℕ) → ((k : ℕ) → t ≤ k → k < t + r → s ≤ k → k < s + n → ⊥) → part (overwritten ws s n xs) t r ≡ part ws t r
-  over_apart t r out =
-      let long : (l : List ℕ) → length (take r (drop t l)) ≡ min r (length l - t)
-      = λ l. length-take r (drop t l) ∙ ap (λ (j : ℕ). min r j) (length-drop t l) in
-      let same : length (part (overwritten ws s n xs) t r) ≡ length (part ws t r)
-      = long (overwritten ws s n xs) ∙ ap (λ (j : ℕ). min r (j - t)) over_long ∙ sym (long ws) in
-      ext_get_or 0 (part (overwritten ws s n xs) t r) (part ws t r) same
-      (λ k l.
-      let b : k < r = omega (arith, l, long (overwritten ws s n xs)) in
-      get_or-take r (drop t (overwritten ws s n xs)) k 0 b
-      ∙ get_or-drop t (overwritten ws s n xs) k 0
-      ∙ over_other (t + k) (λ p q. out (t + k) (omega arith) (omega arith) p q)
-      ∙ sym (get_or-take r (drop t ws) k 0 b ∙ get_or-drop t ws k 0))
+      ⊎_elim
+      (λ a. overwritten_before ws s n xs fits whole k a)
+      (λ a. ⊎_elim (λ b. absurd (out a b)) (λ b. overwritten_after ws s n xs fits whole k b) (cases_lt k (s + n)))
+      (cases_lt k s)
 
 -- the same words in their own place
 pub over_same : (ws : List ℕ) (s n : ℕ) → overwritten ws s n (part ws s n) ≡ ws
 over_same ws s n = ap (λ (l : List ℕ). take s ws ++ l) (take-append-drop n (drop s ws)) ∙ take-append-drop s ws
 
--- ---- counts
-named_set : (k : ℕ) (ns : List Node) (i : ℕ) (nd : Node) → i < length ns → named k (set ns i nd) + names_of k (get_or ns i blank) ≡ named k ns + names_of k nd
-named_set k [] i nd h = omega arith
-named_set k (x ∷ xs) zero nd h = omega arith
-named_set k (x ∷ xs) (suc i) nd h = omega (arith, named_set k xs i nd (omega arith))
-
-named_at : (k : ℕ) (ns : List Node) (i : ℕ) → names_of k (get_or ns i blank) ≤ named k ns
-named_at k [] i = omega arith
-named_at k (x ∷ xs) zero = omega arith
-named_at k (x ∷ xs) (suc i) = omega (arith, named_at k xs i)
-
-names_used : (k : ℕ) (nd : Node) → 0 < nd.count → names_of k nd ≡ times k (names nd.slots)
-names_used k nd h = cond-true (ltb 0 nd.count) (times k (names nd.slots)) 0 (lt-ltb 0 nd.count h)
-
-names_free : (k : ℕ) (nd : Node) → nd.count ≡ 0 → names_of k nd ≡ 0
-names_free k nd h = cond-false (ltb 0 nd.count) (times k (names nd.slots)) 0 (le-ltb 0 nd.count (omega arith))
-
--- what a holder reaches is in use
-reached_used : (ns : List Node) (hs : List ℕ) → Counts ns hs → (a k : ℕ) → 0 < times a hs → Reaches ns a k → 0 < count_at ns k
-reached_used ns hs counts a k h here = omega (arith, counts a)
-reached_used ns hs counts a k h (step {b} r c l) =
-    let u = reached_used ns hs counts a b h r in
-    omega (arith, counts c, named_at c ns b, names_used c (get_or ns b blank) u)
-
 -- slots that do not name i are as high as they were
-tallest_same : (ns : List Node) (i : ℕ) (nd : Node) (ss : List (Option ℕ)) → times i (names ss) ≡ 0 → tallest (set ns i nd) ss ≡ tallest ns ss
-tallest_same ns i nd [] h = refl
-tallest_same ns i nd (None ∷ ss) h = tallest_same ns i nd ss h
-tallest_same ns i nd (Some c ∷ ss) h =
-    ⊎_elim
-    (λ (e : c ≡ i). absurd (omega (arith, cond-true {A = ℕ} (eqb c i) 1 0 (eq-eqb c i e))))
-    (λ (e : c ≡ i → ⊥). ap₂ (λ (a b : ℕ). max a b) (ap (λ (x : Node). x.height) (get_or-set_other ns i c nd blank e)) (tallest_same ns i nd ss (omega arith)))
-    (cases_eq c i)
-
--- at each place: it is i's, and has the new node, or it is as it was
-abbrev pub Put : List Node → ℕ → Node → ℕ → Type 0
-Put ns i nd k = ((k ≡ i) × (get_or (set ns i nd) k blank ≡ nd)) ⊎ ((k ≡ i → ⊥) × (get_or (set ns i nd) k blank ≡ get_or ns k blank))
-
-pub put_at : (ns : List Node) (i : ℕ) (nd : Node) → i < length ns → (k : ℕ) → Put ns i nd k
-put_at ns i nd h k =
-    ⊎_elim
-    (λ (q : k ≡ i). inl (q, ap (λ (j : ℕ). get_or (set ns i nd) j blank) q ∙ get_or-set_same ns i nd blank h))
-    (λ (q : k ≡ i → ⊥). inr (q, get_or-set_other ns i k nd blank q))
-    (cases_eq k i)
+as_tall : (ns : List Node) (i : ℕ) (nd : Node) (ss : List (Option ℕ)) → times i (names ss) ≡ 0 → tallest (set ns i nd) ss ≡ tallest ns ss
+as_tall ns i nd ss none =
+    tallest_same ns (set ns i nd) ss
+    (λ c h. ap (λ (x : Node). x.height) (get_or-set_other ns i c nd blank (λ e. omega (arith, h, none, ap (λ (j : ℕ). times j (names ss)) e))))
 
 abbrev pub placed : Memory → ℕ → ℕ → ℕ → Node → List ℕ → Memory
 placed m i s w nd xs = record { nodes = set m.nodes i nd; words = overwritten m.words s w xs }
@@ -114,8 +51,8 @@ placed m i s w nd xs = record { nodes = set m.nodes i nd; words = overwritten m.
 module _ (m : Memory) (hs : List ℕ) (i s w : ℕ) (nd : Node) (xs : List ℕ)
     (o : Ordered m hs) (inside : i < length m.nodes) (free : count_at m.nodes i ≡ 0) (room : Room m w s)
     (one : nd.count ≡ 1) (low : nd.height ≡ 1) (bare : nd.slots ≡ no_slots) (at : nd.start ≡ s) (long : nd.run ≡ w) (whole : length xs ≡ w) where
-  at_place : (k : ℕ) → Put m.nodes i nd k
-  at_place k = put_at m.nodes i nd inside k
+  at_place : (k : ℕ) → ((k ≡ i) × (get_or (set m.nodes i nd) k blank ≡ nd)) ⊎ ((k ≡ i → ⊥) × (get_or (set m.nodes i nd) k blank ≡ get_or m.nodes k blank))
+  at_place = set_cases m.nodes i nd inside
 
   bare_names : (k : ℕ) → times k (names nd.slots) ≡ 0
   bare_names k = ap (λ (ss : List (Option ℕ)). times k (names ss)) bare
@@ -130,8 +67,8 @@ module _ (m : Memory) (hs : List ℕ) (i s w : ℕ) (nd : Node) (xs : List ℕ)
       let c = names_used k nd (omega arith) ∙ bare_names k in
       let d = o.counts k in
       ⊎_elim
-      (λ q. omega (arith, a, b, c, d, ap (λ (x : Node). x.count) q.1, ap (λ (j : ℕ). count_at m.nodes j) q.0, cond-true {A = ℕ} (eqb i k) 1 0 (eq-eqb i k (sym q.0))))
-      (λ q. omega (arith, a, b, c, d, ap (λ (x : Node). x.count) q.1, cond-false {A = ℕ} (eqb i k) 1 0 (ne_eqb i k (λ e. q.0 (sym e)))))
+      (λ q. omega (arith, a, b, c, d, ap (λ (x : Node). x.count) q.1, ap (λ (j : ℕ). count_at m.nodes j) q.0, hit_same i k (sym q.0)))
+      (λ q. omega (arith, a, b, c, d, ap (λ (x : Node). x.count) q.1, hit_other i k (λ e. q.0 (sym e))))
       (at_place k)
 
   -- nothing in use names a free node
@@ -148,7 +85,7 @@ module _ (m : Memory) (hs : List ℕ) (i s w : ℕ) (nd : Node) (xs : List ℕ)
       (λ q.
       let v : 0 < count_at m.nodes k = omega (arith, u, ap (λ (x : Node). x.count) q.1) in
       let a : tallest (set m.nodes i nd) (slots_at (set m.nodes i nd) k) ≡ tallest m.nodes (slots_at m.nodes k)
-      = ap (λ (x : Node). tallest (set m.nodes i nd) x.slots) q.1 ∙ tallest_same m.nodes i nd (slots_at m.nodes k) (not_named k v) in
+      = ap (λ (x : Node). tallest (set m.nodes i nd) x.slots) q.1 ∙ as_tall m.nodes i nd (slots_at m.nodes k) (not_named k v) in
       omega (arith, a, ap (λ (x : Node). x.height) q.1, o.heights k v))
       (at_place k)
 
@@ -249,7 +186,7 @@ module _ (m : Memory) (hs : List ℕ) (i s w : ℕ) (nd : Node) (xs : List ℕ)
         same_node = q.1 ∙ ap (λ (c : ℕ). with_count (get_or m.nodes k blank) c) (sym (ap (λ (x : Node). x.count) q.1));
         same_run =
             ap (λ (x : Node). part (overwritten m.words s w xs) x.start x.run) q.1
-            ∙ over_apart m.words s w xs room.inside whole (start_at m.nodes k) (run_at m.nodes k) (λ j a b c d. room.clear k j c d a b);
+            ∙ part_apart m.words s w xs room.inside whole (start_at m.nodes k) (run_at m.nodes k) (λ j a b c d. room.clear k j a b c d);
       })
       (at_place k)
 

@@ -1,12 +1,14 @@
 -- One holder less: what it leaves, and the steps of the code.
-use Rattle.std.proofs.Common.{◌≡◌, ℕ, zero, suc, ◌-◌, ◌<◌, ◌≤◌, Bool, true, false, List, [], ◌∷◌, ◌++◌, Some, None, Option, sym, refl, ap, ◌∙◌, subst, ⊎_elim, arith}
+use Rattle.std.proofs.Common.{◌≡◌, ℕ, zero, suc, ◌-◌, ◌<◌, ◌≤◌, Bool, true, false, fold, List, [], ◌∷◌, ◌++◌, Some, None, Option, sym, refl, ap, ◌∙◌, subst, ⊎_elim, append_assoc, arith}
+use Rattle.std.proofs.lemmas.List.Sums.{fold_push}
 use Rattle.std.proofs.lemmas.Bool.{cases_eq, cases_lt, eq-eqb, ne_eqb}
 use Rattle.pool.specs.declared.node.Node.{Node}
 use Rattle.pool.specs.Memory.{Memory, node_at, count_at, height_at, slots_at}
 use Rattle.pool.specs.Counts.{names, Counts, tallest, Falling, Owed, OwedAll}
 use Rattle.pool.specs.Order.{Within, Ordered, SameAt, Change}
 use Rattle.pool.specs.Sharing.{recounted, vacated, each_slot, released, release}
-use Rattle.pool.proofs.Counted.{owed_used, owed_in, less_counts, free_counts, heights_falling, above, above_slots, above_lower, above_tallest, tallest_above}
+use Rattle.pool.proofs.Counted.{owed_used, owed_in, less_counts, free_counts, heights_falling, above, above_slots, above_lower, above_tallest, above_split, tallest_above}
+use Rattle.pool.proofs.Naming.{each_named}
 use Rattle.pool.proofs.Spared.{Spared, spared_refl, spared_trans, spared_within, spared_same, spared_keeps, spared_ordered, kept_height, kept_falling, recount_spared, vacate_spared}
 
 -- ---- one step of `released`
@@ -37,8 +39,8 @@ spared_sound a b hs hs' s p counts =
 pub spared_height : (a b : Memory) → Spared a b → (k : ℕ) → height_at b.nodes k ≤ height_at a.nodes k
 spared_height a b p k = kept_height (node_at a k) (node_at b k) (p.kept k)
 
-pub spared_above : (a b : Memory) → Spared a b → (ss : List (Option ℕ)) → above b.nodes ss ≤ above a.nodes ss
-spared_above a b p ss = above_lower a.nodes b.nodes (spared_height a b p) ss
+pub spared_above : (a b : Memory) → Spared a b → (cs : List ℕ) → above b.nodes cs ≤ above a.nodes cs
+spared_above a b p cs = above_lower a.nodes b.nodes (spared_height a b p) cs
 
 pub good_trans : (a b c : Memory) (hs hs' : List ℕ) → Good a b hs → Good b c hs' → Good a c hs'
 good_trans a b c hs hs' p q = record { sound = q.sound; spared = spared_trans a b p.spared c q.spared }
@@ -63,21 +65,23 @@ module _ (m : Memory) (n : ℕ) (hs : List ℕ) (s : Sound m (n ∷ hs)) where
         spared = p;
       }
 
-  pub last_low : count_at m.nodes n ≡ 1 → above (vacated m n).nodes (slots_at m.nodes n) ≤ height_at m.nodes n
+  pub last_low : count_at m.nodes n ≡ 1 → above (vacated m n).nodes (names (slots_at m.nodes n)) ≤ height_at m.nodes n
   last_low e =
-      omega (arith, spared_above m (vacated m n) (last_good e).spared (slots_at m.nodes n), above_slots m.nodes n s.falling (owed_used m.nodes n hs s.counts))
+      omega (arith, spared_above m (vacated m n) (last_good e).spared (names (slots_at m.nodes n)), above_slots m.nodes n s.falling (owed_used m.nodes n hs s.counts))
 
 abbrev pub Releases : ℕ → Type 0
 Releases f = (m : Memory) (n : ℕ) (hs : List ℕ) → Sound m (n ∷ hs) → height_at m.nodes n < f → Good m (released f m n) hs
 
-pub slots_good : (f : ℕ) → Releases f → (m : Memory) (ss : List (Option ℕ)) (hs : List ℕ) → Sound m (names ss ++ hs) → above m.nodes ss ≤ f → Good m (each_slot (released f) m ss) hs
-slots_good f r m [] hs s t = record { sound = s; spared = spared_refl m }
-slots_good f r m (None ∷ ss) hs s t = slots_good f r m ss hs s t
-slots_good f r m (Some c ∷ ss) hs s t =
+names_good : (f : ℕ) → Releases f → (m : Memory) (xs hs : List ℕ) → Sound m (xs ++ hs) → above m.nodes xs ≤ f → Good m (fold (released f) m xs) hs
+names_good f r m [] hs s t = record { sound = s; spared = spared_refl m }
+names_good f r m (c ∷ xs) hs s t =
     let b : Memory = released f m c in
-    let one : Good m b (names ss ++ hs) = r m c (names ss ++ hs) s (omega arith) in
-    let rest : Good b (each_slot (released f) b ss) hs = slots_good f r b ss hs one.sound (omega (arith, spared_above m b one.spared ss)) in
-    good_trans m b (each_slot (released f) b ss) (names ss ++ hs) hs one rest
+    let one : Good m b (xs ++ hs) = r m c (xs ++ hs) s (omega arith) in
+    let rest : Good b (fold (released f) b xs) hs = names_good f r b xs hs one.sound (omega (arith, spared_above m b one.spared xs)) in
+    good_trans m b (fold (released f) b xs) (xs ++ hs) hs one rest
+
+slots_good : (f : ℕ) → Releases f → (m : Memory) (ss : List (Option ℕ)) (hs : List ℕ) → Sound m (names ss ++ hs) → above m.nodes (names ss) ≤ f → Good m (each_slot (released f) m ss) hs
+slots_good f r m ss hs s t = subst (λ (b : Memory). Good m b hs) (each_named (released f) m ss) (names_good f r m (names ss) hs s t)
 
 pub released_good : (f : ℕ) → Releases f
 released_good zero m n hs s t = absurd (omega arith)
@@ -112,7 +116,7 @@ release_change m n hs o =
 
 -- ---- the code
 -- slots that name nothing
-slots_none : (f : Memory → ℕ → Memory) (ns : List Node) (m : Memory) (ss : List (Option ℕ)) → above ns ss ≤ 0 → each_slot f m ss ≡ m
+slots_none : (f : Memory → ℕ → Memory) (ns : List Node) (m : Memory) (ss : List (Option ℕ)) → above ns (names ss) ≤ 0 → each_slot f m ss ≡ m
 slots_none f ns m [] h = refl
 slots_none f ns m (None ∷ ss) h = slots_none f ns m ss h
 slots_none f ns m (Some c ∷ ss) h = absurd (omega arith)
@@ -143,37 +147,24 @@ module _ (m : Memory) (n : ℕ) (owed : Owed m.nodes n) (falling : Falling m.nod
   code_less ne zero h = absurd (omega arith)
   code_less ne (suc f) h = sym (released_less f m n ne)
 
--- what is left to release is owed, and gives what all of it was to give
-pub record Left (entry m : Memory) (all rest : List (Option ℕ)) : Type 0 where
-  pub owed : OwedAll m.nodes rest
-  pub falling : Falling m.nodes
-  pub within : Within m.nodes m.words
-  pub low : above m.nodes rest ≤ above entry.nodes all
-  pub gives : (f : ℕ) → tallest entry.nodes all < f → each_slot (released f) m rest ≡ each_slot (released f) entry all
+-- c is next where xs, which stand before it, are released
+module _ (m : Memory) (ss : List (Option ℕ)) (owed : OwedAll m.nodes ss) (falling : Falling m.nodes) (within : Within m.nodes m.words)
+    (xs rest : List ℕ) (c : ℕ) (split : names ss ≡ xs ++ (c ∷ rest)) (b : Memory) (e : (f : ℕ) → tallest m.nodes ss < f → b ≡ fold (released f) m xs) where
+  split_above : above m.nodes (names ss) ≡ above m.nodes (xs ++ (c ∷ rest))
+  split_above = ap (λ (cs : List ℕ). above m.nodes cs) split
 
-pub left_start : (m : Memory) (all : List (Option ℕ)) → OwedAll m.nodes all → Falling m.nodes → Within m.nodes m.words → Left m m all all
-left_start m all o f w = record { owed = o; falling = f; within = w; low = omega arith; gives = λ f h. refl }
+  pub next_good : Good m b (c ∷ (rest ++ owed.0))
+  next_good =
+      let f : ℕ = suc (tallest m.nodes ss) in
+      let s : Sound m (xs ++ (c ∷ (rest ++ owed.0))) = record { counts = subst (λ (cs : List ℕ). Counts m.nodes cs) (ap (λ (cs : List ℕ). cs ++ owed.0) split ∙ append_assoc xs (c ∷ rest) owed.0) owed.1; falling = falling; within = within } in
+      subst (λ (x : Memory). Good m x (c ∷ (rest ++ owed.0))) (sym (e f (omega arith)))
+      (names_good f (released_good f) m xs (c ∷ (rest ++ owed.0)) s (omega (arith, split_above, above_split m.nodes xs rest c, above_tallest m.nodes ss)))
 
-pub left_none : (entry m : Memory) (all rest : List (Option ℕ)) → Left entry m all (None ∷ rest) → Left entry m all rest
-left_none entry m all rest l = record { owed = l.owed; falling = l.falling; within = l.within; low = l.low; gives = l.gives }
+  pub next_low : height_at b.nodes c < above m.nodes (names ss)
+  next_low = omega (arith, split_above, above_split m.nodes xs rest c, spared_height m b next_good.spared c)
 
-module _ (entry m : Memory) (all rest : List (Option ℕ)) (c : ℕ) (l : Left entry m all (Some c ∷ rest)) where
-  pub slot_owed : Owed m.nodes c
-  slot_owed = (names rest ++ l.owed.0, l.owed.1)
-
-  pub slot_low : height_at m.nodes c < above entry.nodes all
-  slot_low = omega (arith, l.low)
-
-  pub left_some : (b : Memory) → ((f : ℕ) → height_at m.nodes c < f → b ≡ released f m c) → Left entry b all rest
-  left_some b r =
-      let f₀ : ℕ = suc (height_at m.nodes c) in
-      let hs : List ℕ = names rest ++ l.owed.0 in
-      let g = released_good f₀ m c hs (record { counts = l.owed.1; falling = l.falling; within = l.within }) (omega arith) in
-      let d : Good m b hs = subst (λ (x : Memory). Good m x hs) (sym (r f₀ (omega arith))) g in
-      record {
-        owed = (l.owed.0, d.sound.counts);
-        falling = d.sound.falling;
-        within = d.sound.within;
-        low = omega (arith, l.low, spared_above m b d.spared rest);
-        gives = λ f h. ap (λ (x : Memory). each_slot (released f) x rest) (r f (omega (arith, slot_low, above_tallest entry.nodes all))) ∙ l.gives f h;
-      }
+  pub next_gives : (d : Memory) → ((f : ℕ) → height_at b.nodes c < f → d ≡ released f b c) → (f : ℕ) → tallest m.nodes ss < f → d ≡ fold (released f) m (xs ++ (c ∷ []))
+  next_gives d r f h =
+      r f (omega (arith, next_low, above_tallest m.nodes ss))
+      ∙ ap (λ (x : Memory). released f x c) (e f h)
+      ∙ sym (fold_push (released f) m xs c)

@@ -1,6 +1,6 @@
 -- A slot taken, and a slot put: what each leaves to all who hold.
-use Rattle.std.proofs.Common.{◌≡◌, ℕ, zero, suc, ◌+◌, ◌<◌, ◌≤◌, Bool, true, false, ltb, ◌⊎◌, List, [], ◌∷◌, length, get_or, set, Some, None, Ok, Err, Option, Result, unwrap_or, sym, refl, ap, ◌∙◌, subst, ap₂, inl, inr, ⊎_elim, arith}
-use Rattle.std.proofs.lemmas.List.{length-set, get_or-set_same, get_or_past}
+use Rattle.std.proofs.Common.{◌≡◌, ℕ, zero, suc, ◌+◌, ◌<◌, ◌≤◌, Bool, true, false, ltb, List, [], ◌∷◌, length, get_or, set, Some, None, Ok, Err, Option, Result, unwrap_or, sym, refl, ap, ◌∙◌, subst, ap₂, ⊎_elim, arith}
+use Rattle.std.proofs.lemmas.List.{length-set, get_or-set_same}
 use Rattle.std.proofs.lemmas.Bool.{cases_lt, le-ltb, ltb-true, ltb-false}
 use Rattle.pool.specs.declared.node.Node.{Node}
 use Rattle.pool.specs.declared.node.PoolFault.{PoolFault}
@@ -21,15 +21,6 @@ names_set k (Some c ∷ ss) zero None h = omega arith
 names_set k (Some c ∷ ss) zero (Some d) h = omega arith
 names_set k (None ∷ ss) (suc j) s h = omega (arith, names_set k ss j s (omega arith))
 names_set k (Some c ∷ ss) (suc j) s h = omega (arith, names_set k ss j s (omega arith))
-
--- a slot that is present names its child
-pub slot_named : (ss : List (Option ℕ)) (j c : ℕ) → get_or ss j None ≡ Some c → 0 < times c (names ss)
-slot_named ss j c e =
-    let at : (get_or ss j None ≡ None) ⊎ (j < length ss) = ⊎_elim (λ l. inr l) (λ l. inl (get_or_past ss j None l)) (cases_lt j (length ss)) in
-    ⊎_elim
-    (λ n. let z : ◌≡◌ {A = ℕ} 0 1 = cc in absurd (omega arith))
-    (λ l. omega (arith, names_set c ss j None l, ap (λ (s : Option ℕ). times c (name s)) e, hit_same c c refl))
-    at
 
 tallest_below : (ns : List Node) (ss : List (Option ℕ)) (h : ℕ) → ((c : ℕ) → 0 < times c (names ss) → height_at ns c ≤ h) → tallest ns ss ≤ h
 tallest_below ns [] h p = omega arith

@@ -41,51 +41,15 @@ run_at ns k = (get_or ns k blank).run
 
 -- the node with another count
 abbrev pub with_count : Node → ℕ → Node
-with_count nd c =
-    record {
-      encoding = nd.encoding;
-      kind = nd.kind;
-      len = nd.len;
-      parameter = nd.parameter;
-      arity = nd.arity;
-      slots = nd.slots;
-      height = nd.height;
-      count = c;
-      start = nd.start;
-      run = nd.run;
-    }
+with_count nd c = record nd { count = c }
 
 -- the node with other slots, at another height
 abbrev pub with_slots : Node → List (Option ℕ) → ℕ → Node
-with_slots nd ss h =
-    record {
-      encoding = nd.encoding;
-      kind = nd.kind;
-      len = nd.len;
-      parameter = nd.parameter;
-      arity = nd.arity;
-      slots = ss;
-      height = h;
-      count = nd.count;
-      start = nd.start;
-      run = nd.run;
-    }
+with_slots nd ss h = record nd { slots = ss; height = h }
 
 -- the node with another encoding
 abbrev pub with_encoding : Node → ℕ → Node
-with_encoding nd e =
-    record {
-      encoding = e;
-      kind = nd.kind;
-      len = nd.len;
-      parameter = nd.parameter;
-      arity = nd.arity;
-      slots = nd.slots;
-      height = nd.height;
-      count = nd.count;
-      start = nd.start;
-      run = nd.run;
-    }
+with_encoding nd e = record nd { encoding = e }
 
 -- the memory with another node at k
 abbrev pub put_node : Memory → ℕ → Node → Memory

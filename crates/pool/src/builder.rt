@@ -6,7 +6,7 @@ ghost use Rattle.std.specs.Prelude.{◌≡◌, ◌+◌, ◌<◌, ◌≤◌, leng
 ghost use Rattle.pool.specs.Building.{opened, append_row, finished, Open};
 ghost use Rattle.pool.specs.Seen.{memory_of};
 
-use crate::node::{FLAT, Node, PoolFault, SLOTS};
+use crate::node::{FLAT, Node, PoolFault};
 use crate::pool::Pool;
 use rows::kinds::RowKinds;
 use rows::row::Row;
@@ -31,23 +31,16 @@ impl Pool<'_> {
         ensures { (result, memory_of self.new) ≡ opened (memory_of self.old) kind n (((K.RowKinds.kinds kinds.now).kind kind).words n) }
     {
         let run = kinds.words(kind, n);
-        let Some(node) = self.lowest_free() else {
-            return Err(PoolFault::Nodes);
-        };
-        let Some(start) = self.find_run(run) else {
-            return Err(PoolFault::Words);
-        };
+        let node = self.lowest_free().ok_or(PoolFault::Nodes)?;
+        let start = self.find_run(run).ok_or(PoolFault::Words)?;
         self.nodes[node as usize] = Node {
-            encoding: 0,
             kind,
             len: n,
-            parameter: 0,
-            arity: 0,
-            slots: [None; SLOTS],
             height: 1,
             count: 1,
             start,
             run,
+            ..Node::FREE
         };
         Ok(node)
     }
@@ -60,8 +53,7 @@ impl Pool<'_> {
         ensures filled { builder.new.filled ≡ builder.old.filled + 1 }
     {
         let node = self.nodes[builder.node as usize];
-        let from = node.start as usize;
-        let run = &mut self.words[from..from + node.run as usize];
+        let run = &mut self.words[node.words()];
         builder.filled = kinds.append(node.kind, run, node.len, builder.filled, row);
     }
 

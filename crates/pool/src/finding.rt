@@ -12,12 +12,10 @@ impl Pool<'_> {
         ensures value { result ≡ lowest_free self.now.nodes.now 0 }
         ensures lowest { LowestNode self.now.nodes.now result }
     {
-        for (i, node) in self.nodes.iter().enumerate() {
-            if node.count == 0 {
-                return Some(i as u8);
-            }
-        }
-        None
+        self.nodes
+            .iter()
+            .position(|node| node.count == 0)
+            .map(|i| i as u8)
     }
 
     // Where the first node ends that has one of the n words from `at` on.
@@ -25,14 +23,11 @@ impl Pool<'_> {
         requires { at + n < 2 ^ 64 }
         ensures { elim result [ None ↦ unused self.now.nodes.now at n ≡ true | Some e ↦ (at < e) × (e < 2 ^ 17) × (0 < n) × ((k : ℕ) × (start_at self.now.nodes.now k < at + n) × (0 < run_at self.now.nodes.now k) × (e ≡ start_at self.now.nodes.now k + run_at self.now.nodes.now k)) ] }
     {
-        for node in self.nodes.iter() {
-            let start = node.start as usize;
-            let end = start + node.run as usize;
-            if at.max(start) < end.min(at + n) {
-                return Some(end);
-            }
-        }
-        None
+        self.nodes
+            .iter()
+            .map(|node| node.words())
+            .find(|words| at.max(words.start) < words.end.min(at + n))
+            .map(|words| words.end)
     }
 
     // The lowest start of n unused words in a row.
@@ -42,6 +37,7 @@ impl Pool<'_> {
         ensures lowest { Lowest (memory_of self.now) n result }
     {
         let n = n as usize;
+        // not every start is looked at: the next is where a node in the way ends
         let limit = self.words.len();
         let mut at = 0;
         while at + n <= limit {

@@ -1,3 +1,7 @@
+ghost use Rattle.std.specs.Prelude.{◌≡◌, ◌+◌, ◌^◌, ◌<◌};
+
+use std::ops::Range;
+
 // The most slots that a node has.
 pub const SLOTS: usize = 8;
 
@@ -7,7 +11,9 @@ pub const MAX_HEIGHT: u8 = 32;
 // The encoding of a Flat array; an open builder has 0, which no array has.
 pub const FLAT: u8 = 1;
 
-// One node: the fields of an array, the slots that name its children, and how it is held.
+// One node: the fields of an array, the slots that name its children, and how it is held. Encodings and kinds are
+// numbers, since sets of them are open. Children are named by node numbers, since nodes lie in lent memory of a fixed
+// size; for the same reason an open builder and a free node are told by a 0, and no Option stands around them.
 #[derive(Clone, Copy)]
 pub struct Node {
     pub encoding: u8,
@@ -39,6 +45,16 @@ impl Node {
         start: 0,
         run: 0,
     };
+
+    // The places of its run of words.
+    pub fn words(&self) -> Range<usize>
+        ensures start { result.start ≡ self.now.start }
+        ensures end { result.end ≡ self.now.start + self.now.run }
+        ensures low { result.end < 2 ^ 17 }
+    {
+        let start = self.start as usize;
+        start..start + self.run as usize
+    }
 }
 
 // Why the pool refuses.

@@ -3,19 +3,17 @@ ghost use Rattle.pool.specs.Memory.{empty_memory, start_at, run_at, run_of};
 ghost use Rattle.pool.specs.Seen.{memory_of, nodes_used, words_used};
 
 use crate::node::Node;
-use crate::pool::{NODES, Pool, WORDS};
+use crate::pool::{Pool, Tables};
 
 impl<'a> Pool<'a> {
     // A pool over any lent memory, with nothing in use.
-    pub fn new(nodes: &'a mut [Node; NODES], words: &'a mut [u32; WORDS]) -> Pool<'a>
+    pub fn new(tables: &'a mut Tables) -> Pool<'a>
         ensures { memory_of result ≡ empty_memory }
     {
-        for node in nodes.iter_mut() {
-            *node = Node::FREE;
-        }
-        for word in words.iter_mut() {
-            *word = 0;
-        }
+        let nodes = &mut tables.nodes;
+        let words = &mut tables.words;
+        nodes.fill(Node::FREE);
+        words.fill(0);
         Pool { nodes, words }
     }
 
@@ -27,21 +25,14 @@ impl<'a> Pool<'a> {
         ensures words { result.1.now ≡ run_of (memory_of self.now) n }
     {
         let node = self.nodes[n as usize];
-        let from = node.start as usize;
-        (node.start, &self.words[from..from + node.run as usize])
+        (node.start, &self.words[node.words()])
     }
 
     // The nodes in use.
     pub fn nodes_used(&self) -> usize
         ensures { result ≡ nodes_used self.now.nodes.now }
     {
-        let mut used = 0;
-        for node in self.nodes.iter() {
-            if node.count != 0 {
-                used += 1;
-            }
-        }
-        used
+        self.nodes.iter().filter(|node| node.count != 0).count()
     }
 
     // The words in use.
@@ -49,10 +40,6 @@ impl<'a> Pool<'a> {
         requires { length self.now.nodes.now ≤ 65536 }
         ensures { result ≡ words_used self.now.nodes.now }
     {
-        let mut used = 0;
-        for node in self.nodes.iter() {
-            used += node.run as usize;
-        }
-        used
+        self.nodes.iter().map(|node| node.run as usize).sum()
     }
 }

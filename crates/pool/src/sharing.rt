@@ -36,8 +36,7 @@ impl Pool<'_> {
             return;
         }
         self.nodes[n as usize] = Node::FREE;
-        let from = node.start as usize;
-        self.words[from..from + node.run as usize].fill(0);
+        self.words[node.words()].fill(0);
         self.release_slots(node.slots);
     }
 
@@ -49,10 +48,8 @@ impl Pool<'_> {
         requires within { Within self.old.nodes.now self.old.words.now }
         ensures { (f : ℕ) → tallest self.old.nodes.now slots < f → memory_of self.new ≡ each_slot (released f) (memory_of self.old) slots }
     {
-        for slot in slots {
-            if let Some(child) = slot {
-                self.release(child);
-            }
+        for child in slots.into_iter().flatten() {
+            self.release(child);
         }
     }
 }

@@ -19,10 +19,8 @@ impl Pool<'_> {
         requires room { (k : ℕ) → count_at self.old.nodes.now k + 8 < 65536 }
         ensures { memory_of self.new ≡ each_slot retained (memory_of self.old) slots }
     {
-        for slot in slots {
-            if let Some(child) = slot {
-                self.retain(child);
-            }
+        for child in slots.into_iter().flatten() {
+            self.retain(child);
         }
     }
 
@@ -37,9 +35,7 @@ impl Pool<'_> {
         if node.count == 1 {
             return Ok(n);
         }
-        let Some(copy) = self.lowest_free() else {
-            return Err(PoolFault::Nodes);
-        };
+        let copy = self.lowest_free().ok_or(PoolFault::Nodes)?;
         self.nodes[n as usize].count = node.count - 1;
         self.retain_slots(node.slots);
         self.nodes[copy as usize] = Node { count: 1, ..node };
@@ -51,13 +47,12 @@ impl Pool<'_> {
         requires { (c : ℕ) → 0 < times c (names slots) → c < length self.now.nodes.now }
         ensures { result ≡ tallest self.now.nodes.now slots }
     {
-        let mut height = 0;
-        for slot in slots {
-            if let Some(child) = slot {
-                height = self.nodes[child as usize].height.max(height);
-            }
-        }
-        height
+        slots
+            .into_iter()
+            .flatten()
+            .map(|child| self.nodes[child as usize].height)
+            .max()
+            .unwrap_or(0)
     }
 
     // Takes the child out of a slot: the parent with the slot absent, and the child.

@@ -1,21 +1,13 @@
 -- What rows that are appended one after another come to, for every lawful kind.
 use Rattle.std.proofs.Common.{◌≡◌, ℕ, zero, suc, ◌+◌, ◌<◌, ◌≤◌, true, List, [], ◌∷◌, ◌++◌, map, length, get_or, take, replicate, sym, refl, ap, ◌∙◌, add-zero, add-one, arith}
 use Rattle.std.specs.List.{range_with_len}
-use Rattle.std.proofs.lemmas.List.FromFn.{length-map-range_with_len, take-map-range_with_len, map-range_with_len_more}
+use Rattle.std.proofs.lemmas.List.FromFn.{length-map-range_with_len, get_or-map-range_with_len, take-map-range_with_len, map-range_with_len_more, fill_by_all}
 use Rattle.std.proofs.lemmas.List.{length-replicate, length-take-le, take_all, take_more, append_assoc, append-nil}
 use Rattle.rows.specs.declared.row.Row.{Row}
 use Rattle.rows.specs.Kind.{Kind, LawfulKind, Taken, rows, appended}
 
 pub rows_long : (kd : Kind) (n : ℕ) (run : List ℕ) → length (rows kd n run) ≡ n
 rows_long kd n run = length-map-range_with_len (kd.row n run) 0 n
-
--- two functions that agree from a on give the same list
-pub map_counting_same : (f g : ℕ → Row) (a n : ℕ) → ((j : ℕ) → a ≤ j → j < a + n → f j ≡ g j) → map f (range_with_len a n) ≡ map g (range_with_len a n)
-map_counting_same f g a zero h = refl
-map_counting_same f g a (suc n) h =
-    let here : f a ≡ g a = h a (omega arith) (omega arith) in
-    let rest : map f (range_with_len (a + 1) n) ≡ map g (range_with_len (a + 1) n) = map_counting_same f g (a + 1) n (λ j p q. h j (omega arith) (omega arith)) in
-    cc
 
 -- each row of those taken is taken
 pub taken_at : (kd : Kind) (rs : List Row) (i : ℕ) (d : Row) → i < length rs → Taken kd rs → kd.takes (get_or rs i d) ≡ true
@@ -29,7 +21,8 @@ module _ {kd : Kind} (law : LawfulKind kd) where
   put_rows n run k r whole inside taken =
       let f : ℕ → Row = kd.row n (kd.put n run k r) in
       let g : ℕ → Row = kd.row n run in
-      let same : map f (range_with_len 0 k) ≡ map g (range_with_len 0 k) = map_counting_same f g 0 k (λ j p q. law.put_other n run k r j whole inside taken (omega arith) (λ e. omega arith)) in
+      let same : map f (range_with_len 0 k) ≡ map g (range_with_len 0 k) = fill_by_all g (map f (range_with_len 0 k)) k r (length-map-range_with_len f 0 k)
+      (λ j p. get_or-map-range_with_len f 0 k j j r p (omega arith) ∙ law.put_other n run k r j whole inside taken (omega arith) (λ e. omega arith)) in
       take-map-range_with_len f 0 n (k + 1) (omega arith)
       ∙ map-range_with_len_more f 0 k k (omega arith)
       ∙ ap (λ (xs : List Row). xs ++ f k ∷ []) (same ∙ sym (take-map-range_with_len g 0 n k (omega arith)))

@@ -1,5 +1,5 @@
 -- The two kinds of every set: number is kind 1 and mark is kind 2; and a set with one kind more.
-use Rattle.std.specs.Prelude.{◌≡◌, ℕ, ◌+◌, ◌-◌, ◌*◌, ◌/◌, ◌%◌, ◌^◌, ◌≤◌, max, true, false, ◌||◌, ltb, List, [], ◌∷◌, length, Some, None, ◌==◌, nat_lt, slice_index, slice_set}
+use Rattle.std.specs.Prelude.{◌≡◌, ℕ, ◌+◌, ◌-◌, ◌*◌, ◌/◌, ◌%◌, ◌^◌, ◌≤◌, max, true, false, ◌||◌, List, [], ◌∷◌, length, Some, None, ◌==◌, nat_lt, slice_index, slice_set}
 use Rattle.rows.specs.Kind.{Kind, Kinds, LawfulKind}
 
 -- four bytes, the high one first
@@ -34,7 +34,7 @@ mark = record {
   words = λ n. (n + 31) / 32;
   row = λ n run k. record { value = bit (slice_index run (k / 32)) (k % 32) };
   put = λ n run k r. slice_set run (k / 32) (with_bit (slice_index run (k / 32)) (k % 32) r.value);
-  tidy = λ n run. elim (n % 32 == 0) [ true ↦ true | false ↦ ltb (slice_index run (n / 32)) (2 ^ (n % 32)) ];
+  tidy = λ n run. elim (n % 32 == 0) [ true ↦ true | false ↦ nat_lt (slice_index run (n / 32)) (2 ^ (n % 32)) ];
   width = 1;
   parsed = λ bs. elim (length bs == 1) [ true ↦ elim (nat_lt (slice_index bs 0) 2) [ true ↦ Some (record { value = slice_index bs 0 }) | false ↦ None ] | false ↦ None ];
   written = λ r. r.value ∷ [];

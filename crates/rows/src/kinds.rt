@@ -9,7 +9,14 @@ use crate::mark::Mark;
 use crate::number::Number;
 use crate::row::Row;
 
-// A set of row kinds told apart by number, in which 1 is Number and 2 is Mark.
+// The number of Number in every set.
+pub const NUMBER: u8 = 1;
+
+// The number of Mark in every set.
+pub const MARK: u8 = 2;
+
+// A set of row kinds told apart by number, in which 1 is Number and 2 is Mark. A number and no enum tells them apart,
+// since sets are open: `Joined` has kinds that the set within it does not know.
 pub trait RowKinds {
     ghost kinds: { Self → Kinds };
 
@@ -53,7 +60,8 @@ pub trait RowKinds {
     ghost lawful: { (s : Self) → LawfulKinds (kinds s) };
 }
 
-// Number and Mark.
+// Number and Mark. Each member asks for the kind by itself: an enum or a visitor that asks once would need every
+// member a second time, and appending would not be one text for each kind.
 #[derive(Clone, Copy)]
 pub struct BaseKinds;
 
@@ -63,11 +71,11 @@ impl RowKinds for BaseKinds {
     ghost lawful = { λ s. base_kinds_lawful };
 
     fn has(&self, kind: u8) -> bool {
-        kind == 1 || kind == 2
+        kind == NUMBER || kind == MARK
     }
 
     fn words(&self, kind: u8, n: u16) -> u16 {
-        if kind == 2 {
+        if kind == MARK {
             Mark.words(n)
         } else {
             Number.words(n)
@@ -75,7 +83,7 @@ impl RowKinds for BaseKinds {
     }
 
     fn read(&self, kind: u8, run: &[u32], n: u16, k: u16) -> Row {
-        if kind == 2 {
+        if kind == MARK {
             Mark.read(run, n, k)
         } else {
             Number.read(run, n, k)
@@ -83,7 +91,7 @@ impl RowKinds for BaseKinds {
     }
 
     fn append(&self, kind: u8, run: &mut [u32], n: u16, filled: u16, row: Row) -> u16 {
-        if kind == 2 {
+        if kind == MARK {
             append(&Mark, run, n, filled, row)
         } else {
             append(&Number, run, n, filled, row)
@@ -91,7 +99,7 @@ impl RowKinds for BaseKinds {
     }
 
     fn width(&self, kind: u8) -> u8 {
-        if kind == 2 {
+        if kind == MARK {
             Mark.width()
         } else {
             Number.width()
@@ -103,7 +111,7 @@ impl RowKinds for BaseKinds {
     }
 
     fn parse(&self, kind: u8, bytes: &[u8]) -> Option<Row> {
-        if kind == 2 {
+        if kind == MARK {
             Mark.parse(bytes)
         } else {
             Number.parse(bytes)
@@ -111,7 +119,7 @@ impl RowKinds for BaseKinds {
     }
 
     fn byte(&self, kind: u8, row: Row, j: u8) -> u8 {
-        if kind == 2 {
+        if kind == MARK {
             Mark.byte(row, j)
         } else {
             Number.byte(row, j)
@@ -119,7 +127,8 @@ impl RowKinds for BaseKinds {
     }
 }
 
-// A set with one kind more, under a number. The numbers that the set has stay as they are.
+// A set with one kind more, under a number. The numbers that the set has stay as they are. Its members ask as those of
+// `BaseKinds` do, of a set and a kind, which have no trait in common.
 #[derive(Clone, Copy)]
 pub struct Joined<S, K> {
     pub set: S,
@@ -178,9 +187,7 @@ impl<S: RowKinds, K: RowKind> RowKinds for Joined<S, K> {
     }
 
     fn widest(&self) -> u8 {
-        let set = self.set.widest();
-        let kind = self.kind.width();
-        if set < kind { kind } else { set }
+        self.set.widest().max(self.kind.width())
     }
 
     fn parse(&self, kind: u8, bytes: &[u8]) -> Option<Row> {

@@ -19,18 +19,18 @@ impl RowKind for Mark {
     }
 
     fn words(&self, n: u16) -> u16 {
-        (n + 31) / 32
+        n.div_ceil(32)
     }
 
     fn read(&self, run: &[u32], _n: u16, k: u16) -> Row {
-        let word = word_at(run, k as usize / 32);
+        let word = word_at(run, usize::from(k) / 32);
         Row {
             value: bit_of(word, k % 32),
         }
     }
 
     fn write(&self, run: &mut [u32], _n: u16, k: u16, row: Row) {
-        let i = k as usize / 32;
+        let i = usize::from(k) / 32;
         run[i] = put_bit(run[i], k % 32, row.value);
     }
 
@@ -40,7 +40,9 @@ impl RowKind for Mark {
 
     fn parse(&self, bytes: &[u8]) -> Option<Row> {
         match bytes {
-            [b] if *b < 2 => Some(Row { value: *b as u32 }),
+            [b] if *b < 2 => Some(Row {
+                value: u32::from(*b),
+            }),
             _ => None,
         }
     }

@@ -24,12 +24,12 @@ impl RowKind for Number {
 
     fn read(&self, run: &[u32], _n: u16, k: u16) -> Row {
         Row {
-            value: word_at(run, k as usize),
+            value: word_at(run, usize::from(k)),
         }
     }
 
     fn write(&self, run: &mut [u32], _n: u16, k: u16, row: Row) {
-        run[k as usize] = row.value;
+        run[usize::from(k)] = row.value;
     }
 
     fn width(&self) -> u8 {
@@ -46,9 +46,10 @@ impl RowKind for Number {
     }
 
     fn byte(&self, row: Row, j: u8) -> u8 {
-        match row.value.to_be_bytes().get(j as usize) {
-            Some(b) => *b,
-            None => 0,
-        }
+        row.value
+            .to_be_bytes()
+            .get(usize::from(j))
+            .copied()
+            .unwrap_or(0)
     }
 }

@@ -5,10 +5,7 @@ ghost use Rattle.rows.specs.Ours.{bit, with_bit};
 pub fn word_at(run: &[u32], i: usize) -> u32
     ensures { result ≡ slice_index run.now i }
 {
-    match run.get(i) {
-        Some(word) => *word,
-        None => 0,
-    }
+    run.get(i).copied().unwrap_or(0)
 }
 
 // Bit j of a word, bit 0 the lowest.
@@ -16,7 +13,7 @@ pub fn bit_of(word: u32, j: u16) -> u32
     requires { j < 32 }
     ensures { result ≡ bit word j }
 {
-    (word >> j) % 2
+    (word >> j) & 1
 }
 
 // The word with v for its bit j.
@@ -25,5 +22,5 @@ pub fn put_bit(word: u32, j: u16, v: u32) -> u32
     requires small { v < 2 }
     ensures { result ≡ with_bit word j v }
 {
-    word - (bit_of(word, j) << j) + (v << j)
+    (word & !(1 << j)) | (v << j)
 }

@@ -1,49 +1,36 @@
 #![tactic(auto)]
 
 use encodings::encoding::Encoding;
-use encodings::flat::Flat;
-use encodings::matcher::{AnyCanonical, Matcher};
-use optimizer::{Bank, EmptyBank};
-use planner::call::{Call, Refusal};
+use encodings::matcher::Matcher;
+use optimizer::Bank;
+use planner::call::{Call, Reading, Refusal};
 use planner::planner::Planner;
+use planner::read::Usage;
 use planner::replay::replay;
+use planner::session::Session;
 use planner::tally::Tally;
-use pool::node::Node;
-use pool::pool::{NODES, WORDS};
-use rows::kinds::{BaseKinds, RowKinds};
+use pool::pool::Tables;
+use rows::kinds::{MARK, NUMBER, RowKinds};
 use std::alloc::{AllocError, Global};
+use std::fmt::Display;
 
 // The thickness at each point of the strip, in hundredths of a millimetre.
 const THICKNESS: [u32; 8] = [212, 210, 208, 195, 170, 196, 209, 211];
 
-// Whether there is a flaw at each point.
-const FLAWS: [u32; 8] = [0, 0, 0, 1, 1, 0, 0, 0];
+// Whether there is a flaw at each point, as the bytes of a making.
+const FLAWS: [u8; 8] = [0, 0, 0, 1, 1, 0, 0, 0];
 
-const NUMBER: u8 = 1;
-
-const MARK: u8 = 2;
-
-// The rows as the bytes of a making, the high byte of each number first.
+// Numbers as the bytes of a making, the high byte of each first.
 fn number_bytes(heap: Global, rows: &[u32]) -> Result<Vec<u8>, AllocError> {
-    let mut bytes = Vec::new(heap);
-    for row in rows {
-        for byte in row.to_be_bytes() {
-            bytes.push(byte)?;
-        }
-    }
-    Ok(bytes)
-}
-
-fn mark_bytes(heap: Global, rows: &[u32]) -> Result<Vec<u8>, AllocError> {
-    let mut bytes = Vec::new(heap);
-    for row in rows {
-        bytes.push((*row & 0xff) as u8)?;
-    }
-    Ok(bytes)
+    rows.iter().flat_map(|row| row.to_be_bytes()).collect(heap)
 }
 
 // Says how a call went.
-fn tell(rt: &HostRuntime, what: &str, res: Result<(), Refusal>) -> anyhow::Result<()> {
+fn tell(
+    rt: &HostRuntime,
+    what: impl Display + Drop,
+    res: Result<(), Refusal>,
+) -> anyhow::Result<()> {
     match res {
         Ok(()) => println!(rt; "{what}: done")?,
         Err(refusal) => println!(rt; "{what}: refused, {refusal:?}")?,
@@ -56,10 +43,11 @@ fn tell_usage<K: RowKinds, E: Encoding, B: Bank, M: Matcher>(
     rt: &HostRuntime,
     planner: &Planner<'_, K, E, B, M>,
 ) -> anyhow::Result<()> {
-    let usage = planner.inspect();
-    let roots = usage.roots;
-    let nodes = usage.nodes;
-    let words = usage.words;
+    let Usage {
+        roots,
+        nodes,
+        words,
+    } = planner.inspect();
     println!(rt; "  in use: {roots} of 32 roots, {nodes} of 256 nodes, {words} of 8192 words")?;
     Ok(())
 }
@@ -71,28 +59,27 @@ fn compare<K: RowKinds, E: Encoding, B: Bank, M: Matcher>(
     root: u8,
     laid: &[u32],
 ) -> anyhow::Result<()> {
-    let reading = match planner.read(root) {
+    let Reading {
+        kind,
+        len,
+        place,
+        words,
+    } = match planner.read(root) {
         Ok(reading) => reading,
-        Err(refusal) => {
-            println!(rt; "read root {root}: refused, {refusal:?}")?;
-            return Ok(());
-        }
+        Err(refusal) => return tell(rt, format_args!("read root {root}"), Err(refusal)),
     };
-    let len = reading.len;
-    let kind = reading.kind;
-    let place = reading.place;
-    let words = reading.words.len();
     println!(rt;
-        "read root {root}: {len} rows of kind {kind} in {words} words from word {place} on"
+        "read root {root}: {len} rows of kind {kind} in {} words from word {place} on",
+        words.len()
     )?;
-    let mut same = 0u16;
+    let read = |k| planner.session.kinds.read(kind, words, len, k).value;
     for (k, row) in (0..len).zip(laid) {
-        let read = planner.kinds.read(kind, reading.words, len, k).value;
-        if read == *row {
-            same = same.saturating_add(1);
-        }
-        println!(rt; "  point {k}: laid {row}, read {read}")?;
+        println!(rt; "  point {k}: laid {row}, read {}", read(k))?;
     }
+    let same = (0..len)
+        .zip(laid)
+        .filter(|(k, row)| read(*k) == **row)
+        .count();
     println!(rt; "  {same} of {len} rows are as they were laid")?;
     Ok(())
 }
@@ -100,18 +87,9 @@ fn compare<K: RowKinds, E: Encoding, B: Bank, M: Matcher>(
 // Lays one strip from both sides, thickness and flaw marks, and tells what it did.
 fn lay(rt: &HostRuntime) -> anyhow::Result<()> {
     let heap = rt.alloc();
-    let mut nodes = [Node::FREE; NODES];
-    let mut words = [0; WORDS];
-    let mut planner = Planner::new(
-        &mut nodes,
-        &mut words,
-        BaseKinds,
-        Flat,
-        EmptyBank,
-        AnyCanonical,
-    );
+    let mut tables = Tables::EMPTY;
+    let mut planner = Planner::new(&mut tables, Session::BASE);
     let thickness = number_bytes(heap, &THICKNESS)?;
-    let flaws = mark_bytes(heap, &FLAWS)?;
     tell(
         rt,
         "make the thickness under root 0",
@@ -120,7 +98,7 @@ fn lay(rt: &HostRuntime) -> anyhow::Result<()> {
     tell(
         rt,
         "make the flaw marks under root 1",
-        planner.make(1, MARK, 8, flaws.as_slice()),
+        planner.make(1, MARK, 8, &FLAWS),
     )?;
     tell_usage(rt, &planner)?;
     tell(rt, "share root 0 as root 2", planner.share(2, 0))?;
@@ -131,7 +109,7 @@ fn lay(rt: &HostRuntime) -> anyhow::Result<()> {
     tell(rt, "release root 1 again", planner.release(1))?;
     tell_usage(rt, &planner)?;
     compare(rt, &planner, 2, &THICKNESS)?;
-    compare(rt, &planner, 3, &FLAWS)?;
+    compare(rt, &planner, 3, &FLAWS.map(u32::from))?;
     tell(rt, "release root 2", planner.release(2))?;
     tell(rt, "release root 3", planner.release(3))?;
     tell_usage(rt, &planner)
@@ -140,10 +118,8 @@ fn lay(rt: &HostRuntime) -> anyhow::Result<()> {
 // Plays the same calls on a new planner, and tells how they were answered.
 fn play_again(rt: &HostRuntime) -> anyhow::Result<()> {
     let heap = rt.alloc();
-    let mut nodes = [Node::FREE; NODES];
-    let mut words = [0; WORDS];
+    let mut tables = Tables::EMPTY;
     let thickness = number_bytes(heap, &THICKNESS)?;
-    let flaws = mark_bytes(heap, &FLAWS)?;
     let calls = [
         Call::Make {
             root: 0,
@@ -155,7 +131,7 @@ fn play_again(rt: &HostRuntime) -> anyhow::Result<()> {
             root: 1,
             kind: MARK,
             len: 8,
-            rows: flaws.as_slice(),
+            rows: &FLAWS,
         },
         Call::Share { to: 2, from: 0 },
         Call::Share { to: 3, from: 1 },
@@ -167,22 +143,9 @@ fn play_again(rt: &HostRuntime) -> anyhow::Result<()> {
         Call::Release { root: 2 },
         Call::Release { root: 3 },
     ];
-    let mut tally = Tally {
-        accepted: 0,
-        refused: 0,
-    };
-    replay(
-        &mut nodes,
-        &mut words,
-        BaseKinds,
-        Flat,
-        EmptyBank,
-        AnyCanonical,
-        &calls,
-        &mut tally,
-    );
-    let accepted = tally.accepted;
-    let refused = tally.refused;
+    let mut tally = Tally::default();
+    replay(&mut tables, Session::BASE, &calls, &mut tally);
+    let Tally { accepted, refused } = tally;
     println!(rt; "the same calls on a new planner: {accepted} accepted, {refused} refused")?;
     Ok(())
 }

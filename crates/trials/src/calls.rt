@@ -7,12 +7,22 @@ use lines::respond::respond;
 use lines::text::decode;
 use optimizer::{Bank, EmptyBank};
 use planner::planner::Planner;
-use pool::node::Node;
-use pool::pool::{NODES, WORDS};
+use planner::session::Session;
+use pool::pool::{Tables, WORDS};
 use rows::kinds::{BaseKinds, Joined, RowKinds};
 use std::alloc::Global;
 use std::process::Abort;
 use std::test::Fail;
+
+// A session with these row kinds, whose matcher takes every array.
+fn session<K>(kinds: K) -> Session<K, Flat, EmptyBank, AnyArray> {
+    Session {
+        kinds,
+        encodings: Flat,
+        bank: EmptyBank,
+        matcher: AnyArray,
+    }
+}
 
 // Whether a line is answered so.
 fn answers<K: RowKinds, E: Encoding, B: Bank, M: Matcher>(
@@ -32,14 +42,16 @@ fn answers<K: RowKinds, E: Encoding, B: Bank, M: Matcher>(
 // A kind of two words a row, joined to the set, goes through lines, planner and pool as the others do.
 #[test]
 fn a_joined_kind_is_made_and_read(rt: HostRuntime) -> Result<(), Fail> {
-    let mut nodes = [Node::FREE; NODES];
-    let mut words = [7; WORDS];
+    let mut tables = Tables {
+        words: [7; WORDS],
+        ..Tables::EMPTY
+    };
     let kinds = Joined {
         set: BaseKinds,
         number: 3,
         kind: Wide,
     };
-    let mut planner = Planner::new(&mut nodes, &mut words, kinds, Flat, EmptyBank, AnyArray);
+    let mut planner = Planner::new(&mut tables, session(kinds));
     let heap = rt.alloc();
     answers(
         &rt,
@@ -65,9 +77,8 @@ fn a_joined_kind_is_made_and_read(rt: HostRuntime) -> Result<(), Fail> {
 // An array shared under eight roots is freed with the last of them, in whatever order they go.
 #[test]
 fn shares_are_released_in_any_order(rt: HostRuntime) -> Result<(), Fail> {
-    let mut nodes = [Node::FREE; NODES];
-    let mut words = [0; WORDS];
-    let mut planner = Planner::new(&mut nodes, &mut words, BaseKinds, Flat, EmptyBank, AnyArray);
+    let mut tables = Tables::EMPTY;
+    let mut planner = Planner::new(&mut tables, session(BaseKinds));
     let heap = rt.alloc();
     answers(&rt, heap, &mut planner, b"010001000100000009", b"00")?;
     for to in 1..8 {
@@ -112,5 +123,17 @@ fn a_line_is_cut_at_its_limit(rt: HostRuntime) -> Result<(), Fail> {
     line.clear();
     line.push(b'0');
     assert!(rt; &*line.line() == b"0".as_slice());
+    Ok(())
+}
+
+#[test]
+fn a_line_is_empty_until_it_is_begun(rt: HostRuntime) -> Result<(), Fail> {
+    let mut line = LineBuffer::new(rt.alloc(), 1)?;
+    assert!(rt; line.is_empty());
+    line.push(b'0');
+    line.push(b'4');
+    assert!(rt; !line.is_empty());
+    line.clear();
+    assert!(rt; line.is_empty());
     Ok(())
 }

@@ -1,7 +1,7 @@
 use crate::fill::{fill, fill_wide};
 use crate::wide::Wide;
 use rows::kind::RowKind;
-use rows::kinds::{BaseKinds, Joined, RowKinds};
+use rows::kinds::{BaseKinds, Joined, MARK, RowKinds};
 use rows::mark::Mark;
 use rows::number::Number;
 use rows::row::Row;
@@ -14,10 +14,10 @@ const OFF: Row = Row { value: 0 };
 fn marks_lie_lowest_bit_first(rt: HostRuntime) {
     let mut run = [0];
     // the worked example of a validity bitmap in the Apache Arrow Columnar Format
-    fill(&BaseKinds, 2, &mut run, &[ON, ON, OFF, ON, OFF, ON]);
+    fill(&BaseKinds, MARK, &mut run, &[ON, ON, OFF, ON, OFF, ON]);
     assert_eq!(rt; run[0], 0b00101011);
-    assert_eq!(rt; BaseKinds.read(2, &run, 6, 2), OFF);
-    assert_eq!(rt; BaseKinds.read(2, &run, 6, 3), ON);
+    assert_eq!(rt; BaseKinds.read(MARK, &run, 6, 2), OFF);
+    assert_eq!(rt; BaseKinds.read(MARK, &run, 6, 3), ON);
 }
 
 #[test]

@@ -2,6 +2,7 @@ use Rattle.std.proofs.Common.{◌≡◌, ◌≤◌, List, [], ◌++◌, map, len
 use Rattle.std.proofs.lemmas.List.{append-nil, take_all}
 use Rattle.rows.specs.Kind.{Kinds}
 use Rattle.planner.specs.declared.call.Call.{Call}
+use Rattle.planner.specs.declared.session.Session.{Session}
 use Rattle.planner.specs.Calls.{Said, told}
 use Rattle.planner.specs.Contract.{played, answers}
 use Rattle.planner.specs.Seen.{state_of}
@@ -15,29 +16,27 @@ loop-call-init g c = (
   (λ before h. subst (λ (l : List Said). g.L.Listener.hears c.args.listener.now l) (sym (append-nil before)) h),
   c.new-planner.ensures.state,
   refl,
-  refl,
 )
 
 pub loop-call-preserved : goal.loop-call-preserved
 loop-call-preserved g c =
     let k = c.loop-call.invariant.2 in
-    let p = play_more (g.K.RowKinds.kinds c.new-planner.result.kinds) (g.K.RowKinds.kinds c.loop-call.planner.kinds) (ap (λ x. g.K.RowKinds.kinds x) k)
+    let p = play_more (g.K.RowKinds.kinds c.new-planner.result.session.kinds) (g.K.RowKinds.kinds c.loop-call.planner.session.kinds) (ap (λ (x : Session _ _ _ _). g.K.RowKinds.kinds x.kinds) k)
     c.args.calls.now c.loop-call.call-index _ c.loop-call-test.true (state_of c.loop-call.planner) (state_of c.serve.new.self) c.loop-call.invariant.1 (state_is _ _ _ _ _ _ c.serve.ensures.answers.does) in (
       (λ before h. subst (λ (l : List Said). g.L.Listener.hears c.serve.new.listener l) (p.0 before) (c.serve.ensures.heard _ (c.loop-call.invariant.0 before h))),
       p.1,
-      c.serve.ensures.answers.kinds ∙ k,
-      c.serve.ensures.answers.encodings ∙ c.loop-call.invariant.3,
+      c.serve.ensures.answers.session ∙ k,
     )
 
 pub returns : goal.returns
 returns g c =
-    let ks : Kinds = g.K.RowKinds.kinds c.args.kinds in
+    let ks : Kinds = g.K.RowKinds.kinds c.args.session.kinds in
     let past : length c.args.calls.now ≤ c.loop-call.call-index = omega arith in
     let all : take c.loop-call.call-index c.args.calls.now ≡ c.args.calls.now = take_all c.loop-call.call-index c.args.calls.now past in
     record {
       heard = λ before h.
           subst (λ (l : List Call). g.L.Listener.hears c.loop-call.listener (before ++ answers (played ks [] (map told l)))) all
-          (subst (λ x. g.L.Listener.hears c.loop-call.listener (before ++ answers (played (g.K.RowKinds.kinds x) [] (map told (take c.loop-call.call-index c.args.calls.now))))) c.new-planner.ensures.kinds
+          (subst (λ (x : Session _ _ _ _). g.L.Listener.hears c.loop-call.listener (before ++ answers (played (g.K.RowKinds.kinds x.kinds) [] (map told (take c.loop-call.call-index c.args.calls.now))))) c.new-planner.ensures.session
           (c.loop-call.invariant.0 before h));
-      law = (history_law ks (g.met.K.RowKinds.lawful c.args.kinds) _ (g.E.Encoding.lawful c.args.encodings ks) (played ks [] (map told c.args.calls.now)) (played_answered ks [] (map told c.args.calls.now) tt)).1;
+      law = (history_law ks (g.met.K.RowKinds.lawful c.args.session.kinds) _ (g.E.Encoding.lawful c.args.session.encodings ks) (played ks [] (map told c.args.calls.now)) (played_answered ks [] (map told c.args.calls.now) tt)).1;
     }

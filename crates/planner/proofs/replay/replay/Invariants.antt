@@ -7,8 +7,7 @@ use Rattle.planner.proofs.replay.replay.Given as goal
 
 abbrev pub invariant-loop-call : goal.invariant-loop-call
 invariant-loop-call g l =
-    let h = played (g.K.RowKinds.kinds l.initial.planner.kinds) [] (map told (take l.call-index l.calls)) in
+    let h = played (g.K.RowKinds.kinds l.initial.planner.session.kinds) [] (map told (take l.call-index l.calls)) in
     ((before : List Said) → g.L.Listener.hears l.initial.listener before → g.L.Listener.hears l.listener (before ++ answers h))
     × (state_of l.planner ≡ state_after h)
-    × (l.planner.kinds ≡ l.initial.planner.kinds)
-    × (l.planner.encodings ≡ l.initial.planner.encodings)
+    × (l.planner.session ≡ l.initial.planner.session)

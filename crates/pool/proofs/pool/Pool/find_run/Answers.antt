@@ -1,7 +1,6 @@
-use Rattle.std.proofs.Common.{ℕ, Option, sym, ◌∙◌, subst, arith}
-use Rattle.pool.specs.Finding.{Lowest}
+use Rattle.std.proofs.Common.{sym, ◌∙◌, arith}
 use Rattle.pool.specs.Seen.{memory_of}
-use Rattle.pool.proofs.Found.{run_begins, run_here, run_past, run_skips, find_run_is}
+use Rattle.pool.proofs.Found.{run_begins, run_here, run_past, run_skips, run_lowest}
 use Rattle.pool.proofs.pool.Pool.find_run.Goals as goal
 
 pub loop-at-init : goal.loop-at-init
@@ -15,15 +14,9 @@ loop-at-preserved c =
 pub returns-in-None : goal.returns-in-None
 returns-in-None c =
     let e = c.loop-at.invariant.1 ∙ run_here (memory_of c.args.self.now) c.args.n c.loop-at.at c.loop-at-test.true c.in-None.ensures in
-    record {
-      value = sym e;
-      lowest = subst (λ (o : Option ℕ). Lowest (memory_of c.args.self.now) c.args.n o) e (find_run_is (memory_of c.args.self.now) c.args.n);
-    }
+    record { value = sym e; lowest = run_lowest _ _ _ e }
 
 pub returns : goal.returns
 returns c =
     let e = c.loop-at.invariant.1 ∙ run_past (memory_of c.args.self.now) c.args.n c.loop-at.at c.loop-at-test.false in
-    record {
-      value = sym e;
-      lowest = subst (λ (o : Option ℕ). Lowest (memory_of c.args.self.now) c.args.n o) e (find_run_is (memory_of c.args.self.now) c.args.n);
-    }
+    record { value = sym e; lowest = run_lowest _ _ _ e }

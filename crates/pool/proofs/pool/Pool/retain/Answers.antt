@@ -3,6 +3,3 @@ use Rattle.pool.proofs.pool.Pool.retain.Goals as goal
 
 pub bounds-self-n : goal.bounds-self-n
 bounds-self-n c = in_range c.args.self.now.nodes.now c.args.n c.requires.used
-
-pub bounds-self-n-2 : goal.bounds-self-n-2
-bounds-self-n-2 c = in_range c.args.self.now.nodes.now c.args.n c.requires.used

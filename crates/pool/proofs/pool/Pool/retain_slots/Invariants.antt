@@ -1,7 +1,7 @@
-use Rattle.std.proofs.Common.{◌-◌, drop}
+use Rattle.std.proofs.Common.{◌≡◌, fold}
+use Rattle.pool.specs.Sharing.{retained}
 use Rattle.pool.specs.Seen.{memory_of}
-use Rattle.pool.proofs.Copying.{Retaining}
 use Rattle.pool.proofs.pool.Pool.retain_slots.Given as goal
 
-abbrev pub invariant-loop-slot : goal.invariant-loop-slot
-invariant-loop-slot l = Retaining (memory_of l.initial.self) (memory_of l.self) l.slot-items (drop l.slot-index l.slot-items) (8 - l.slot-index)
+abbrev pub invariant-loop-child : goal.invariant-loop-child
+invariant-loop-child l = memory_of l.self ≡ fold retained (memory_of l.initial.self) l.yielded

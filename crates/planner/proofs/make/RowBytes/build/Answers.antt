@@ -1,36 +1,26 @@
-use Rattle.std.proofs.Common.{◌≡◌, ℕ, ◌+◌, ◌*◌, ◌≤◌, List, length, get_or, take, drop, Some, None, Ok, Result, sym, refl, ap, ◌∙◌, subst, arith}
+use Rattle.std.proofs.Common.{◌≡◌, ℕ, ◌*◌, List, length, get_or, take, drop, Some, None, Ok, sym, refl, ap, ◌∙◌, subst, arith}
 use Rattle.std.proofs.lemmas.List.{take_all}
 use Rattle.rows.specs.declared.row.Row.{Row}
 use Rattle.rows.specs.Kind.{Kind, Kinds, LawfulKind}
-use Rattle.pool.specs.declared.node.PoolFault.{PoolFault}
 use Rattle.pool.specs.Memory.{Memory}
-use Rattle.pool.specs.Building.{opened, append_row, append_rows, finished, Open}
+use Rattle.pool.specs.Building.{append_row, append_rows, finished, Open}
 use Rattle.pool.specs.Seen.{memory_of}
 use Rattle.planner.specs.Contract.{rows_parsed}
-use Rattle.planner.proofs.Parsing.{row_within, row_bytes, parsed_some, parsed_long}
+use Rattle.planner.proofs.Parsing.{parsed_some, parsed_long}
 use Rattle.planner.proofs.Filling.{opened_ok, open_at, builder_inside, append_step, built_ok}
-use Rattle.planner.proofs.make.build.Goals as goal
-use Rattle.planner.proofs.make.build.Goals.{in-Some, in_default}
-
-pub slice_bounds-parse-end : goal.slice_bounds-parse-end
-slice_bounds-parse-end g c =
-    let w : ℕ = c.width-width.result in
-    let all : length c.args.rows.now ≡ c.args.len * w = c.requires.bytes ∙ ap (λ (x : ℕ). c.args.len * x) (sym c.width-width.ensures) in
-    let last : c.loop-k.k * w + w ≤ c.args.len * w = row_within w c.args.len c.loop-k.k c.loop-k-test.true in
-    omega arith
+use Rattle.planner.proofs.make.RowBytes.build.Goals as goal
+use Rattle.planner.proofs.make.RowBytes.build.Goals.{in-Some, in_default}
 
 pub append-requires : goal.append-requires
 append-requires g c =
     let ks : Kinds = g.K.RowKinds.kinds c.args.kinds.now in
-    let kd : Kind = ks.kind c.args.kind in
-    let law : LawfulKind kd = (g.met.K.RowKinds.lawful c.args.kinds.now).lawful c.args.kind in
+    let kd : Kind = ks.kind c.args.self.now.kind in
+    let law : LawfulKind kd = (g.met.K.RowKinds.lawful c.args.kinds.now).lawful c.args.self.now.kind in
     let q : Memory = memory_of c.open_builder.new.self in
     let i : ℕ = c.in_ok-node.node in
-    let e : (Ok i, q) ≡ opened (memory_of c.args.pool.now) c.args.kind c.args.len (kd.words c.args.len)
-    = ap (λ (r : Result ℕ PoolFault). (r, q)) (sym c.in_ok-node.was) ∙ c.open_builder.ensures in
-    let rs : List Row = rows_parsed kd c.args.len c.args.rows.now in
-    let o = open_at ks (memory_of c.args.pool.now) q c.args.kind c.args.len (kd.words c.args.len) i law
-    (opened_ok (memory_of c.args.pool.now) c.args.kind c.args.len (kd.words c.args.len) i q e)
+    let rs : List Row = rows_parsed kd c.args.self.now.len c.args.self.now.bytes.now in
+    let o = open_at ks (memory_of c.args.pool.now) q c.args.self.now.kind c.args.self.now.len (kd.words c.args.self.now.len) i law
+    (opened_ok (memory_of c.args.pool.now) c.args.self.now.kind c.args.self.now.len (kd.words c.args.self.now.len) i q _ c.in_ok-node.was c.open_builder.ensures)
     (take c.loop-k.k rs) c.loop-k.k c.in-Some.row refl c.loop-k-test.true
     (law.parsed_taken _ c.in-Some.row (sym c.in-Some.ensures)) in
     subst (λ (m : Memory). Open ks m c.loop-k.builder.node c.loop-k.builder.filled c.in-Some.row) (sym c.loop-k.invariant.0)
@@ -40,20 +30,19 @@ append-requires g c =
 pub loop-k-preserved : goal.loop-k-preserved
 loop-k-preserved g c =
     let ks : Kinds = g.K.RowKinds.kinds c.args.kinds.now in
-    let kd : Kind = ks.kind c.args.kind in
-    let law : LawfulKind kd = (g.met.K.RowKinds.lawful c.args.kinds.now).lawful c.args.kind in
+    let kd : Kind = ks.kind c.args.self.now.kind in
+    let law : LawfulKind kd = (g.met.K.RowKinds.lawful c.args.kinds.now).lawful c.args.self.now.kind in
     let q : Memory = memory_of c.open_builder.new.self in
     let i : ℕ = c.in_ok-node.node in
     let k : ℕ = c.loop-k.k in
-    let rs : List Row = rows_parsed kd c.args.len c.args.rows.now in
-    let long : length rs ≡ c.args.len = parsed_long kd law c.args.len c.args.rows.now c.requires.parse in
+    let rs : List Row = rows_parsed kd c.args.self.now.len c.args.self.now.bytes.now in
+    let long : length rs ≡ c.args.self.now.len = parsed_long kd law c.args.self.now.len c.args.self.now.bytes.now c.requires.parse in
     let d : Row = record { value = 0 } in
-    let at : kd.parsed (take kd.width (drop (k * kd.width) c.args.rows.now)) ≡ Some (get_or rs k d)
-    = parsed_some kd c.args.len c.args.rows.now k d c.loop-k-test.true c.requires.parse in
-    let bytes = row_bytes kd k c.width-width.result c.args.rows.now c.width-width.ensures in
-    elim c.match-parse.branch [
+    let at : kd.parsed (take kd.width (drop (k * kd.width) c.args.self.now.bytes.now)) ≡ Some (get_or rs k d)
+    = parsed_some kd c.args.self.now.len c.args.self.now.bytes.now k d c.loop-k-test.true c.requires.parse in
+    elim c.match-row.branch [
       | in-Some w ↦
-          let same : Some w.in-Some.row ≡ Some (get_or rs k d) = w.in-Some.ensures ∙ bytes ∙ at in
+          let same : Some w.in-Some.row ≡ Some (get_or rs k d) = w.in-Some.ensures ∙ at in
           let row : w.in-Some.row ≡ get_or rs k d = cc in (
             ap (λ p. memory_of p) w.pool-is
                 ∙ w.append.ensures.after
@@ -66,35 +55,31 @@ loop-k-preserved g c =
             omega (arith, ap (λ b. b.filled) w.builder-is, w.append.ensures.filled, c.loop-k.invariant.2),
           )
       | in_default w ↦
-          let none : None ≡ Some (get_or rs k d) = w.in_default.ensures ∙ bytes ∙ at in
+          let none : None ≡ Some (get_or rs k d) = w.in_default.ensures ∙ at in
           let z : ◌≡◌ {A = ℕ} 0 1 = cc in absurd (omega arith)
     ]
 
 pub finish-requires : goal.finish-requires
 finish-requires g c =
     let ks : Kinds = g.K.RowKinds.kinds c.args.kinds.now in
-    let kd : Kind = ks.kind c.args.kind in
-    let law : LawfulKind kd = (g.met.K.RowKinds.lawful c.args.kinds.now).lawful c.args.kind in
+    let kd : Kind = ks.kind c.args.self.now.kind in
+    let law : LawfulKind kd = (g.met.K.RowKinds.lawful c.args.kinds.now).lawful c.args.self.now.kind in
     let q : Memory = memory_of c.open_builder.new.self in
     let i : ℕ = c.in_ok-node.node in
-    let e : (Ok i, q) ≡ opened (memory_of c.args.pool.now) c.args.kind c.args.len (kd.words c.args.len)
-    = ap (λ (r : Result ℕ PoolFault). (r, q)) (sym c.in_ok-node.was) ∙ c.open_builder.ensures in
-    let h = builder_inside ks (memory_of c.args.pool.now) q c.args.kind c.args.len (kd.words c.args.len) i law
-    (opened_ok (memory_of c.args.pool.now) c.args.kind c.args.len (kd.words c.args.len) i q e)
-    (take c.loop-k.k (rows_parsed kd c.args.len c.args.rows.now)) in
+    let h = builder_inside ks (memory_of c.args.pool.now) q c.args.self.now.kind c.args.self.now.len (kd.words c.args.self.now.len) i law
+    (opened_ok (memory_of c.args.pool.now) c.args.self.now.kind c.args.self.now.len (kd.words c.args.self.now.len) i q _ c.in_ok-node.was c.open_builder.ensures)
+    (take c.loop-k.k (rows_parsed kd c.args.self.now.len c.args.self.now.bytes.now)) in
     omega (arith, h, ap (λ (m : Memory). length m.nodes) c.loop-k.invariant.0, c.loop-k.invariant.1)
 
 pub returns : goal.returns
 returns g c =
     let ks : Kinds = g.K.RowKinds.kinds c.args.kinds.now in
-    let kd : Kind = ks.kind c.args.kind in
-    let law : LawfulKind kd = (g.met.K.RowKinds.lawful c.args.kinds.now).lawful c.args.kind in
+    let kd : Kind = ks.kind c.args.self.now.kind in
+    let law : LawfulKind kd = (g.met.K.RowKinds.lawful c.args.kinds.now).lawful c.args.self.now.kind in
     let q : Memory = memory_of c.open_builder.new.self in
     let i : ℕ = c.in_ok-node.node in
-    let e : (Ok i, q) ≡ opened (memory_of c.args.pool.now) c.args.kind c.args.len (kd.words c.args.len)
-    = ap (λ (r : Result ℕ PoolFault). (r, q)) (sym c.in_ok-node.was) ∙ c.open_builder.ensures in
-    let rs : List Row = rows_parsed kd c.args.len c.args.rows.now in
-    let long : length rs ≡ c.args.len = parsed_long kd law c.args.len c.args.rows.now c.requires.parse in
+    let rs : List Row = rows_parsed kd c.args.self.now.len c.args.self.now.bytes.now in
+    let long : length rs ≡ c.args.self.now.len = parsed_long kd law c.args.self.now.len c.args.self.now.bytes.now c.requires.parse in
     let all : take c.loop-k.k rs ≡ rs = take_all c.loop-k.k rs (omega arith) in
     let node : c.finish.result ≡ i = c.finish.ensures.value ∙ c.loop-k.invariant.1 in
     let after : memory_of c.finish.new.self ≡ finished (append_rows ks q i 0 rs) i
@@ -104,4 +89,4 @@ returns g c =
     ∙ ap (λ (l : List Row). finished (append_rows ks q i 0 l) i) all in
     ap (λ (x : ℕ). (Ok x, memory_of c.finish.new.self)) node
     ∙ ap (λ (m : Memory). (Ok i, m)) after
-    ∙ built_ok ks (memory_of c.args.pool.now) q c.args.kind c.args.len i rs e
+    ∙ built_ok ks (memory_of c.args.pool.now) q c.args.self.now.kind c.args.self.now.len i rs _ c.in_ok-node.was c.open_builder.ensures

@@ -1,0 +1,23 @@
+use encodings::flat::Flat;
+use encodings::matcher::AnyCanonical;
+use optimizer::EmptyBank;
+use rows::kinds::BaseKinds;
+
+// What a planner works with: a set of row kinds, a set of encodings, a bank of rules and kernels, and a matcher.
+#[derive(Clone, Copy)]
+pub struct Session<K, E, B, M> {
+    pub kinds: K,
+    pub encodings: E,
+    pub bank: B,
+    pub matcher: M,
+}
+
+impl Session<BaseKinds, Flat, EmptyBank, AnyCanonical> {
+    // What the programs work with.
+    pub const BASE: Session<BaseKinds, Flat, EmptyBank, AnyCanonical> = Session {
+        kinds: BaseKinds,
+        encodings: Flat,
+        bank: EmptyBank,
+        matcher: AnyCanonical,
+    };
+}
