@@ -26,7 +26,7 @@ PATTERNS = {
         r"const [A-Z_]+: u8 = ",
         r"\bcount [=!]= 0",
         r"=> [0-9]+,$",
-        r"^\s*\[0x",
+        r"^\s*&?\[0x",
     ],
     # loops over an index, and loops that could be a chain or a method
     3: [r"^\s*(for|while|loop)\b"],
@@ -76,7 +76,7 @@ def functions():
                     head[3].append(clause.group(2))
                 elif not re.match(r"\s*(requires|ensures)", line):
                     head[2] += line
-                if line.rstrip().endswith(("{", ";", "}")) and not clause:
+                if line.rstrip().endswith("};") or line.rstrip().endswith(("{", ";", "}")) and not clause:
                     yield head
                     head = None
 

@@ -7,7 +7,7 @@ ghost use Rattle.encodings.specs.declared.matcher.Head.{Head};
 
 use pool::node::FLAT;
 
-// What a matcher sees of an array, with the numbers that a node has.
+// What a matcher sees of an array, with the numbers that a node has. A node has more, which no matcher may depend on.
 #[derive(Clone, Copy)]
 pub struct Head {
     pub encoding: u8,
@@ -45,7 +45,8 @@ impl Matcher for AnyArray {
     }
 }
 
-// Takes the arrays in canonical form, which are the Flat ones.
+// Takes the arrays in canonical form, which are the Flat ones. `Flat` is no other name for it: the Rust has both, and
+// they part where there are more canonical encodings.
 #[derive(Clone, Copy)]
 pub struct AnyCanonical;
 

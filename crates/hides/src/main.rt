@@ -1,20 +1,17 @@
 #![tactic(auto)]
 
-use encodings::encoding::Encoding;
-use encodings::matcher::Matcher;
 use lines::buffer::LineBuffer;
 use lines::parse::longest;
 use lines::respond::respond;
-use optimizer::Bank;
 use planner::planner::Planner;
-use planner::session::Session;
+use planner::session::{BasePlanner, Session};
 use pool::pool::Tables;
-use rows::kinds::{BaseKinds, RowKinds};
+use rows::kinds::BaseKinds;
 use std::io::{self, BufRead, BufReader, Write};
 
 // Answers the line that is waiting, and sends the answer on its way.
-fn answer_line<K: RowKinds, E: Encoding, B: Bank, M: Matcher>(
-    planner: &mut Planner<'_, K, E, B, M>,
+fn answer_line(
+    planner: &mut BasePlanner<'_>,
     line: &mut LineBuffer,
     out: &mut Vec<u8>,
     output: &mut impl Write,
@@ -29,13 +26,14 @@ fn answer_line<K: RowKinds, E: Encoding, B: Bank, M: Matcher>(
 fn main(rt: HostRuntime) -> io::Result<()> {
     let heap = rt.alloc();
     let mut tables = Tables::EMPTY;
-    let mut planner = Planner::new(&mut tables, Session::BASE);
+    let mut planner = Planner::new(&mut tables.nodes, &mut tables.words, Session::BASE);
     let digits = longest(&BaseKinds);
     let mut line = LineBuffer::new(heap, digits + 1)?;
     let mut out = Vec::with_capacity(heap, digits + 1)?;
     let mut output = rt.stdout();
     let mut input = BufReader::new(heap, rt.stdin())?;
-    // a number of turns, since a loop that waits on input has nothing that goes down
+    // a number of turns, since a loop that waits on input has nothing that goes down; over `bytes()`, which has it
+    // within, the program takes a third more instructions
     for _ in 0..u64::MAX {
         let chunk = input.fill_buf()?;
         if chunk.is_empty() {

@@ -4,18 +4,20 @@ ghost use Rattle.planner.specs.Calls as calls;
 ghost use Rattle.lines.specs.Parse as parses;
 
 use crate::text::decode;
-use planner::call::Call;
+use planner::call::{Call, RowBytes};
 use rows::kinds::RowKinds;
 use rows::row::MAX_ROWS;
 
-// The rows of a making, left out where kind or length is out of range.
-fn rows_in_range<'a, K: RowKinds>(kinds: &K, kind: u8, len: u16, rows: &'a [u8]) -> &'a [u8]
-    ensures { result.now ≡ parses.rows_of (K.RowKinds.kinds kinds.now) kind len rows.now }
+// The rows of a making, with no bytes where kind or length is out of range.
+fn rows_in_range<'a, K: RowKinds>(kinds: &K, rows: RowBytes<'a>) -> RowBytes<'a>
+    ensures kind { result.kind ≡ rows.entry.kind }
+    ensures len { result.len ≡ rows.entry.len }
+    ensures bytes { result.bytes.now ≡ parses.rows_of (K.RowKinds.kinds kinds.now) rows.entry.kind rows.entry.len rows.entry.bytes.now }
 {
-    if kinds.has(kind) && len <= MAX_ROWS {
+    if rows.is_in_range(kinds) {
         rows
     } else {
-        &[]
+        RowBytes { bytes: &[], ..rows }
     }
 }
 
@@ -26,21 +28,14 @@ pub fn parse<'a, K: RowKinds>(kinds: &K, bytes: &'a [u8]) -> Option<Call<'a>>
     ensures alone { parses.FromOneText (K.RowKinds.kinds kinds.now) }
 {
     match bytes {
-        [0x01, root, kind, l1, l0, rows @ ..] => {
-            let len = u16::from_be_bytes([*l1, *l0]);
-            Some(Call::Make {
-                root: *root,
-                kind: *kind,
-                len,
-                rows: rows_in_range(kinds, *kind, len, rows),
-            })
+        &[0x01, root, kind, l1, l0, ref bytes @ ..] => {
+            let len = u16::from_be_bytes([l1, l0]);
+            let rows = rows_in_range(kinds, RowBytes { kind, len, bytes });
+            Some(Call::Make { root, rows })
         }
-        [0x03, to, from] => Some(Call::Share {
-            to: *to,
-            from: *from,
-        }),
-        [0x04, root] => Some(Call::Release { root: *root }),
-        [0x09, root] => Some(Call::Read { root: *root }),
+        &[0x03, to, from] => Some(Call::Share { to, from }),
+        &[0x04, root] => Some(Call::Release { root }),
+        &[0x09, root] => Some(Call::Read { root }),
         _ => None,
     }
 }

@@ -17,8 +17,8 @@ fn digit(b: u8) -> Option<u8>
     }
 }
 
-// Puts the bytes that a line of digits stands for at its front, and says how many they are. A slice of them would be
-// lent, and of a lender nothing could be promised here.
+// Puts the bytes that a line of digits stands for at its front, and says how many they are. A slice of them was tried:
+// it is lent, and a clause on what the line holds afterwards, which this one has, was not proved.
 pub fn decode(line: &mut [u8]) -> Option<usize>
     ensures bytes { text.decoded line.old ≡ option_map (λ n. take n line.new) result }
     ensures half { IfSome result (λ n. 2 * n ≡ length line.old) }
@@ -36,7 +36,8 @@ pub fn decode(line: &mut [u8]) -> Option<usize>
     Some(count)
 }
 
-// The digit of a value below 16.
+// The digit of a value below 16. By hand, as `digit`: the library reads both cases, and writes through a String or a
+// Write, whose errors do not say just when memory was refused.
 fn spell(v: u8) -> u8
     requires { v < 16 }
     ensures { result ≡ text.spell v }

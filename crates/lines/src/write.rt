@@ -41,7 +41,8 @@ pub fn layer(refusal: Refusal) -> u8
     }
 }
 
-// Appends the digits of one row.
+// Appends the digits of one row. Kinds and `out` stay two parameters, here and below, as a function for `answer_with`
+// has them.
 fn write_row<K: RowKinds>(
     kinds: &K,
     kind: u8,

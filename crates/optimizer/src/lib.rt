@@ -6,7 +6,7 @@
 
 ghost use Rattle.std.specs.Prelude.{◌≡◌, Bool, false, ℕ};
 
-// Rules and kernels. So far it says which kernel codes exist.
+// Rules and kernels. So far it says which kernel codes exist. A code is a number, since banks are open.
 pub trait Bank {
     ghost kernels: { Self → ℕ → Bool };
 

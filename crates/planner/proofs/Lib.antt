@@ -12,4 +12,3 @@ pub mod Counting
 pub mod Filling
 pub mod Making
 pub mod Playing
-pub mod Tallying

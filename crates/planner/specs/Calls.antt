@@ -20,7 +20,7 @@ pub data Said : Type 0 where
   refused : Refusal → Said
 
 abbrev pub told : Call → Told
-told (Make root kind n bytes) = make root kind n bytes.now
+told (Make root r) = make root r.kind r.len r.bytes.now
 told (Share to from) = share to from
 told (Release root) = release root
 told (Read root) = read root

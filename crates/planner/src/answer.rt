@@ -5,7 +5,8 @@ ghost use Rattle.planner.specs.Contract.{outcome, read_outcome};
 
 use crate::call::{Answer, Reading, Refusal, Reply};
 
-// The answer to a call that hands nothing out.
+// The answer to a call that hands nothing out. Two functions of one line, here and below, are plainer than a generic
+// one with a `From` for each.
 pub fn answer<'a>(res: Result<(), Refusal>) -> Answer<'a>
     ensures { said result ≡ outcome res }
 {

@@ -3,30 +3,26 @@ ghost use Rattle.planner.specs.declared.call.Refusal.TheVariants.{Pool};
 
 use pool::node::PoolFault;
 
+// The rows of a making: their kind, by number as in a node, how many they are, and the bytes of a line that stand for
+// them. There are none of these where kind or length is out of range.
+#[derive(Clone, Copy)]
+pub struct RowBytes<'a> {
+    pub kind: u8,
+    pub len: u16,
+    pub bytes: &'a [u8],
+}
+
 // One call, with its numbers as they came. They may be out of range, so that refusing them is an answer like others.
 #[derive(Clone, Copy)]
 pub enum Call<'a> {
-    // a Flat array of `len` rows of a kind under a root; its rows as the bytes of a line, none where kind or length
-    // is out of range
-    Make {
-        root: u8,
-        kind: u8,
-        len: u16,
-        rows: &'a [u8],
-    },
+    // a Flat array of these rows under a root
+    Make { root: u8, rows: RowBytes<'a> },
     // the array under `from` under the root `to` too
-    Share {
-        to: u8,
-        from: u8,
-    },
+    Share { to: u8, from: u8 },
     // the root empty
-    Release {
-        root: u8,
-    },
+    Release { root: u8 },
     // the rows under a root
-    Read {
-        root: u8,
-    },
+    Read { root: u8 },
 }
 
 // Why a call is refused.
@@ -41,6 +37,7 @@ pub enum Refusal {
     NotFlat,
 }
 
+// By hand, since no derive says which variant `?` makes.
 impl From<PoolFault> for Refusal {
     ghost from_gives = { λ p r. r ≡ Pool p };
 
@@ -49,7 +46,7 @@ impl From<PoolFault> for Refusal {
     }
 }
 
-// What a call that only reads hands out: the run of words of a Flat array, as it lies in the pool from `place` on.
+// What a call that only reads hands out, with the kind by number as in a node: the run of words of a Flat array, as it lies in the pool from `place` on.
 #[derive(Clone, Copy)]
 pub struct Reading<'a> {
     pub kind: u8,
@@ -58,7 +55,7 @@ pub struct Reading<'a> {
     pub words: &'a [u32],
 }
 
-// What a call that is accepted gives.
+// What a call that is accepted gives. No Option, since its None would not say that the call was done.
 #[derive(Clone, Copy)]
 pub enum Reply<'a> {
     Done,

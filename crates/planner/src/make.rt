@@ -6,7 +6,7 @@ ghost use Rattle.planner.specs.Calls.{make};
 ghost use Rattle.planner.specs.Contract.{outcome, rows_parsed};
 ghost use Rattle.planner.specs.Seen.{Answers};
 
-use crate::call::Refusal;
+use crate::call::{Refusal, RowBytes};
 use crate::planner::Planner;
 use encodings::encoding::Encoding;
 use encodings::matcher::Matcher;
@@ -17,17 +17,10 @@ use pool::pool::Pool;
 use rows::kinds::RowKinds;
 use rows::row::{MAX_ROWS, Row};
 
-// The rows of a making: their kind, how many they are, and the bytes that stand for them.
-#[derive(Clone, Copy)]
-struct RowBytes<'a> {
-    kind: u8,
-    len: u16,
-    bytes: &'a [u8],
-}
-
+// The kinds are a parameter and no field: they would stay borrowed while `make` changes the planner.
 impl RowBytes<'_> {
     // Whether the kind exists and the length is in range.
-    fn is_in_range<K: RowKinds>(&self, kinds: &K) -> bool
+    pub fn is_in_range<K: RowKinds>(&self, kinds: &K) -> bool
         ensures { result ≡ in_range (K.RowKinds.kinds kinds.now) self.now.kind self.now.len }
     {
         kinds.has(self.kind) && self.len <= MAX_ROWS
@@ -71,24 +64,18 @@ impl RowBytes<'_> {
         let mut builder = Builder { node, filled: 0 };
         // by number, and not by chunks of the bytes: a kind may have rows of no bytes
         for k in 0..self.len {
-            if let Some(row) = self.row(kinds, k) {
-                pool.append(kinds, &mut builder, row);
-            }
+            let row = self.row(kinds, k).unwrap();
+            pool.append(kinds, &mut builder, row);
         }
         Ok(pool.finish(builder))
     }
 }
 
 impl<K: RowKinds, E: Encoding, B: Bank, M: Matcher> Planner<'_, K, E, B, M> {
-    // Puts a Flat array of `len` rows of a kind, as the bytes stand for them, under a root.
-    pub fn make(&mut self, root: u8, kind: u8, len: u16, rows: &[u8]) -> Result<(), Refusal>
-        ensures { Answers K.RowKinds.kinds E.Encoding.means self.old self.new (make root kind len rows.now) (outcome result) }
+    // Puts a Flat array of the rows that bytes stand for under a root.
+    pub fn make(&mut self, root: u8, rows: RowBytes) -> Result<(), Refusal>
+        ensures { Answers K.RowKinds.kinds E.Encoding.means self.old self.new (make root rows.entry.kind rows.entry.len rows.entry.bytes.now) (outcome result) }
     {
-        let rows = RowBytes {
-            kind,
-            len,
-            bytes: rows,
-        };
         if !rows.is_sized(&self.session.kinds) {
             return Err(Refusal::Line);
         }

@@ -8,18 +8,23 @@ use crate::session::Session;
 use encodings::encoding::Encoding;
 use encodings::matcher::Matcher;
 use optimizer::Bank;
-use pool::pool::{Pool, Tables};
+use pool::node::Node;
+use pool::pool::{NODES, Pool, WORDS};
 use rows::kinds::RowKinds;
 
 impl<'a, K: RowKinds, E: Encoding, B: Bank, M: Matcher> Planner<'a, K, E, B, M> {
     // A planner over any lent memory, with nothing in use and every root empty.
-    pub fn new(tables: &'a mut Tables, session: Session<K, E, B, M>) -> Planner<'a, K, E, B, M>
+    pub fn new(
+        nodes: &'a mut [Node; NODES],
+        words: &'a mut [u32; WORDS],
+        session: Session<K, E, B, M>,
+    ) -> Planner<'a, K, E, B, M>
         ensures state { state_of result ≡ new_state }
         ensures reached { Reached (K.RowKinds.kinds session.kinds) [] (state_of result) }
         ensures session { result.session ≡ session }
     {
         Planner {
-            pool: Pool::new(tables),
+            pool: Pool::new(nodes, words),
             roots: [None; ROOTS],
             session,
         }

@@ -21,8 +21,9 @@ pub fn table_bytes() -> usize
     TABLE_BYTES
 }
 
-// A pool and the roots that hold its arrays, over what its session gives. The ghost fields say that the pool is in
-// order, with the roots for its only holders.
+// A pool and the roots that hold its arrays, over what its session gives. Its type parameters stay four, since each has
+// a trait of its own that clauses name. The ghost fields say that the pool is in order, with the roots for its only
+// holders.
 #[derive(Drop)]
 pub struct Planner<'a, K, E, B, M> {
     pub pool: Pool<'a>,

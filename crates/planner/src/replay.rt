@@ -13,7 +13,8 @@ use crate::session::Session;
 use encodings::encoding::Encoding;
 use encodings::matcher::Matcher;
 use optimizer::Bank;
-use pool::pool::Tables;
+use pool::node::Node;
+use pool::pool::{NODES, WORDS};
 use rows::kinds::RowKinds;
 
 impl<K: RowKinds, E: Encoding, B: Bank, M: Matcher> Planner<'_, K, E, B, M> {
@@ -29,26 +30,15 @@ impl<K: RowKinds, E: Encoding, B: Bank, M: Matcher> Planner<'_, K, E, B, M> {
         ensures handed { Handed F.FnOnce hand self.old.session.kinds (called (K.RowKinds.kinds self.old.session.kinds) (state_of self.old) (told call.entry)).0 out.old result out.new }
         ensures answers { Answers K.RowKinds.kinds E.Encoding.means self.old self.new (told call.entry) (called (K.RowKinds.kinds self.old.session.kinds) (state_of self.old) (told call.entry)).0 }
     {
-        match call {
-            Call::Make {
-                root,
-                kind,
-                len,
-                rows,
-            } => {
-                let res = self.make(root, kind, len, rows);
-                hand(&self.session.kinds, answer(res), out)
+        let res = match call {
+            Call::Make { root, rows } => self.make(root, rows),
+            Call::Share { to, from } => self.share(to, from),
+            Call::Release { root } => self.release(root),
+            Call::Read { root } => {
+                return hand(&self.session.kinds, read_answer(self.read(root)), out);
             }
-            Call::Share { to, from } => {
-                let res = self.share(to, from);
-                hand(&self.session.kinds, answer(res), out)
-            }
-            Call::Release { root } => {
-                let res = self.release(root);
-                hand(&self.session.kinds, answer(res), out)
-            }
-            Call::Read { root } => hand(&self.session.kinds, read_answer(self.read(root)), out),
-        }
+        };
+        hand(&self.session.kinds, answer(res), out)
     }
 
     // One call, and its answer handed to a listener.
@@ -67,11 +57,17 @@ pub fn replay<
     B: Bank + Drop,
     M: Matcher + Drop,
     L: Listener,
->(tables: &mut Tables, session: Session<K, E, B, M>, calls: &[Call], listener: &mut L)
+>(
+    nodes: &mut [Node; NODES],
+    words: &mut [u32; WORDS],
+    session: Session<K, E, B, M>,
+    calls: &[Call],
+    listener: &mut L,
+)
     ensures heard { Hears L.Listener.hears listener.old listener.new (answers (played (K.RowKinds.kinds session.kinds) [] (map told calls.now))) }
     ensures law { Law (K.RowKinds.kinds session.kinds) (E.Encoding.means session.encodings (K.RowKinds.kinds session.kinds)) (played (K.RowKinds.kinds session.kinds) [] (map told calls.now)) }
 {
-    let mut planner = Planner::new(tables, session);
+    let mut planner = Planner::new(nodes, words, session);
     for call in calls {
         planner.serve(*call, listener);
     }

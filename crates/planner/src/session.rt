@@ -1,3 +1,4 @@
+use crate::planner::Planner;
 use encodings::flat::Flat;
 use encodings::matcher::AnyCanonical;
 use optimizer::EmptyBank;
@@ -21,3 +22,6 @@ impl Session<BaseKinds, Flat, EmptyBank, AnyCanonical> {
         matcher: AnyCanonical,
     };
 }
+
+// A planner of the programs.
+pub type BasePlanner<'a> = Planner<'a, BaseKinds, Flat, EmptyBank, AnyCanonical>;

@@ -11,7 +11,7 @@ use crate::pool::Pool;
 use rows::kinds::RowKinds;
 use rows::row::Row;
 
-// An open builder: its node, and the rows that it has so far.
+// An open builder: its node, by number as in a slot, and the rows that it has so far.
 #[derive(Clone, Copy)]
 pub struct Builder {
     pub node: u8,

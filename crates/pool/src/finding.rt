@@ -12,6 +12,7 @@ impl Pool<'_> {
         ensures value { result ≡ lowest_free self.now.nodes.now 0 }
         ensures lowest { LowestNode self.now.nodes.now result }
     {
+        // the cast loses nothing, since there are at most 256 nodes
         self.nodes
             .iter()
             .position(|node| node.count == 0)
@@ -37,7 +38,8 @@ impl Pool<'_> {
         ensures lowest { Lowest (memory_of self.now) n result }
     {
         let n = n as usize;
-        // not every start is looked at: the next is where a node in the way ends
+        // no index is counted: the next start is where a node in the way ends; one that is found fits a u16. A `match`, since
+        // both arms are short
         let limit = self.words.len();
         let mut at = 0;
         while at + n <= limit {

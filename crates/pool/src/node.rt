@@ -20,13 +20,13 @@ pub struct Node {
     pub kind: u8,
     pub len: u16,
     pub parameter: u32,
-    // the number of slots that the array has; the others are always absent
+    // the number of slots that the array has; the others are always absent, since there is fixed room for eight
     pub arity: u8,
     pub slots: [Option<u8>; SLOTS],
     pub height: u8,
     // the share count; a node is in use where it is not 0
     pub count: u16,
-    // where its run of words starts, and how many words it has
+    // where its run of words starts, and how many words it has: a part of the pool's words, and no slice
     pub start: u16,
     pub run: u16,
 }

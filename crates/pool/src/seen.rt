@@ -3,15 +3,13 @@ ghost use Rattle.pool.specs.Memory.{empty_memory, start_at, run_at, run_of};
 ghost use Rattle.pool.specs.Seen.{memory_of, nodes_used, words_used};
 
 use crate::node::Node;
-use crate::pool::{Pool, Tables};
+use crate::pool::{NODES, Pool, WORDS};
 
 impl<'a> Pool<'a> {
     // A pool over any lent memory, with nothing in use.
-    pub fn new(tables: &'a mut Tables) -> Pool<'a>
+    pub fn new(nodes: &'a mut [Node; NODES], words: &'a mut [u32; WORDS]) -> Pool<'a>
         ensures { memory_of result ≡ empty_memory }
     {
-        let nodes = &mut tables.nodes;
-        let words = &mut tables.words;
         nodes.fill(Node::FREE);
         words.fill(0);
         Pool { nodes, words }

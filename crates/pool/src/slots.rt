@@ -13,7 +13,8 @@ use crate::node::{MAX_HEIGHT, Node, PoolFault, SLOTS};
 use crate::pool::Pool;
 
 impl Pool<'_> {
-    // One holder more of all that the slots name.
+    // One holder more of all that the slots name. Not one function with `release_slots`, which calls back into
+    // `release`.
     fn retain_slots(&mut self, slots: [Option<u8>; SLOTS])
         requires used { (c : ℕ) → 0 < times c (names slots) → 0 < count_at self.old.nodes.now c }
         requires room { (k : ℕ) → count_at self.old.nodes.now k + 8 < 65536 }
@@ -80,6 +81,7 @@ impl Pool<'_> {
 
     // Puts a child that the caller holds into an absent slot of the parent.
     // A parent that others hold too stays as it was, and a copy takes its part.
+    // The last steps are those of taking; a function for these three would be as long as what it saves.
     pub fn put_slot_unchecked(&mut self, parent: u8, slot: u8, child: u8) -> Result<u8, PoolFault>
         requires held { (hs : List ℕ) × (length hs ≤ 4096) × Ordered (memory_of self.old) (parent ∷ (child ∷ hs)) }
         requires inside { slot < 8 }

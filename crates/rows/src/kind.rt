@@ -3,10 +3,11 @@ ghost use Rattle.rows.specs.Kind.{Kind, LawfulKind};
 
 use crate::row::Row;
 
-// A row kind: a list of rows held in a run of words. It says which rows it takes, how many words n rows need,
-// reads row k of n, and writes it and no other; and how a row stands in a line. A run and the number of its rows stay
-// two parameters: a struct of both would be written twice, for `&` and for `&mut`, and could not say that the kind asks
-// for so many words.
+// A row kind: a list of rows held in a run of words. It says which rows it takes, how many words n rows need, reads row
+// k of n, and writes it and no other; and how a row stands in a line. A run and the number of its rows stay two
+// parameters: a struct of both would be written twice, for `&` and for `&mut`, and could not say that the kind asks for
+// so many words. What a member requires, its callers require again: a type that said it would be narrower than a u16 or
+// a Row, and depend on the kind.
 pub trait RowKind {
     ghost means: { Self → Kind };
 

@@ -16,7 +16,9 @@ pub const NUMBER: u8 = 1;
 pub const MARK: u8 = 2;
 
 // A set of row kinds told apart by number, in which 1 is Number and 2 is Mark. A number and no enum tells them apart,
-// since sets are open: `Joined` has kinds that the set within it does not know.
+// since sets are open: `Joined` has kinds that the set within it does not know. A set has the members of a kind again,
+// under a number, since it cannot hand out a kind: by value it would ask each kind to be `Copy`, which no kind owes; a
+// borrowed one of either type is no associated type, and a `dyn` may not be handed out.
 pub trait RowKinds {
     ghost kinds: { Self → Kinds };
 
@@ -60,8 +62,7 @@ pub trait RowKinds {
     ghost lawful: { (s : Self) → LawfulKinds (kinds s) };
 }
 
-// Number and Mark. Each member asks for the kind by itself: an enum or a visitor that asks once would need every
-// member a second time, and appending would not be one text for each kind.
+// Number and Mark. Each member asks for the kind by itself, as in `Joined`, since no kind is handed out.
 #[derive(Clone, Copy)]
 pub struct BaseKinds;
 
@@ -127,8 +128,7 @@ impl RowKinds for BaseKinds {
     }
 }
 
-// A set with one kind more, under a number. The numbers that the set has stay as they are. Its members ask as those of
-// `BaseKinds` do, of a set and a kind, which have no trait in common.
+// A set with one kind more, under a number. The numbers that the set has stay as they are.
 #[derive(Clone, Copy)]
 pub struct Joined<S, K> {
     pub set: S,

@@ -40,14 +40,15 @@ impl RowKind for Mark {
 
     fn parse(&self, bytes: &[u8]) -> Option<Row> {
         match bytes {
-            [b] if *b < 2 => Some(Row {
-                value: u32::from(*b),
+            &[b] if b < 2 => Some(Row {
+                value: u32::from(b),
             }),
             _ => None,
         }
     }
 
     fn byte(&self, row: Row, j: u8) -> u8 {
+        // the cast loses nothing, as the check shows: a mark is below 2
         if j == 0 { row.value as u8 } else { 0 }
     }
 }

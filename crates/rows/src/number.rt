@@ -38,8 +38,8 @@ impl RowKind for Number {
 
     fn parse(&self, bytes: &[u8]) -> Option<Row> {
         match bytes {
-            [a, b, c, d] => Some(Row {
-                value: u32::from_be_bytes([*a, *b, *c, *d]),
+            &[a, b, c, d] => Some(Row {
+                value: u32::from_be_bytes([a, b, c, d]),
             }),
             _ => None,
         }

@@ -1,28 +1,44 @@
 #![tactic(auto)]
 
-use encodings::encoding::Encoding;
-use encodings::matcher::Matcher;
-use optimizer::Bank;
-use planner::call::{Call, Reading, Refusal};
+use planner::call::{Call, Reading, Refusal, RowBytes};
 use planner::planner::Planner;
 use planner::read::Usage;
 use planner::replay::replay;
-use planner::session::Session;
+use planner::session::{BasePlanner, Session};
 use planner::tally::Tally;
 use pool::pool::Tables;
 use rows::kinds::{MARK, NUMBER, RowKinds};
 use std::alloc::{AllocError, Global};
 use std::fmt::Display;
 
-// The thickness at each point of the strip, in hundredths of a millimetre.
-const THICKNESS: [u32; 8] = [212, 210, 208, 195, 170, 196, 209, 211];
+// The number of points.
+const POINTS: usize = 8;
 
-// Whether there is a flaw at each point, as the bytes of a making.
-const FLAWS: [u8; 8] = [0, 0, 0, 1, 1, 0, 0, 0];
+// The thickness at each point of the strip, in hundredths of a millimetre.
+const THICKNESS: [u32; POINTS] = [212, 210, 208, 195, 170, 196, 209, 211];
+
+// Whether there is a flaw at each point.
+const FLAWS: [u8; POINTS] = [0, 0, 0, 1, 1, 0, 0, 0];
+
+// The flaws as the rows of a making.
+const FLAW_ROWS: RowBytes<'static> = RowBytes {
+    kind: MARK,
+    len: POINTS as u16,
+    bytes: &FLAWS,
+};
 
 // Numbers as the bytes of a making, the high byte of each first.
 fn number_bytes(heap: Global, rows: &[u32]) -> Result<Vec<u8>, AllocError> {
     rows.iter().flat_map(|row| row.to_be_bytes()).collect(heap)
+}
+
+// The thickness as the rows of a making, from its bytes.
+fn thickness(bytes: &Vec<u8>) -> RowBytes<'_> {
+    RowBytes {
+        kind: NUMBER,
+        len: POINTS as u16,
+        bytes: bytes.as_slice(),
+    }
 }
 
 // Says how a call went.
@@ -39,10 +55,7 @@ fn tell(
 }
 
 // Says how much is in use.
-fn tell_usage<K: RowKinds, E: Encoding, B: Bank, M: Matcher>(
-    rt: &HostRuntime,
-    planner: &Planner<'_, K, E, B, M>,
-) -> anyhow::Result<()> {
+fn tell_usage(rt: &HostRuntime, planner: &BasePlanner<'_>) -> anyhow::Result<()> {
     let Usage {
         roots,
         nodes,
@@ -53,9 +66,9 @@ fn tell_usage<K: RowKinds, E: Encoding, B: Bank, M: Matcher>(
 }
 
 // Reads the array under a root, and lays its rows beside those that it was made from.
-fn compare<K: RowKinds, E: Encoding, B: Bank, M: Matcher>(
+fn compare(
     rt: &HostRuntime,
-    planner: &Planner<'_, K, E, B, M>,
+    planner: &BasePlanner<'_>,
     root: u8,
     laid: &[u32],
 ) -> anyhow::Result<()> {
@@ -88,17 +101,17 @@ fn compare<K: RowKinds, E: Encoding, B: Bank, M: Matcher>(
 fn lay(rt: &HostRuntime) -> anyhow::Result<()> {
     let heap = rt.alloc();
     let mut tables = Tables::EMPTY;
-    let mut planner = Planner::new(&mut tables, Session::BASE);
-    let thickness = number_bytes(heap, &THICKNESS)?;
+    let mut planner = Planner::new(&mut tables.nodes, &mut tables.words, Session::BASE);
+    let bytes = number_bytes(heap, &THICKNESS)?;
     tell(
         rt,
         "make the thickness under root 0",
-        planner.make(0, NUMBER, 8, thickness.as_slice()),
+        planner.make(0, thickness(&bytes)),
     )?;
     tell(
         rt,
         "make the flaw marks under root 1",
-        planner.make(1, MARK, 8, &FLAWS),
+        planner.make(1, FLAW_ROWS),
     )?;
     tell_usage(rt, &planner)?;
     tell(rt, "share root 0 as root 2", planner.share(2, 0))?;
@@ -115,23 +128,19 @@ fn lay(rt: &HostRuntime) -> anyhow::Result<()> {
     tell_usage(rt, &planner)
 }
 
-// Plays the same calls on a new planner, and tells how they were answered.
+// Plays the same calls, as a list, on a new planner, and tells how they were answered.
 fn play_again(rt: &HostRuntime) -> anyhow::Result<()> {
     let heap = rt.alloc();
     let mut tables = Tables::EMPTY;
-    let thickness = number_bytes(heap, &THICKNESS)?;
+    let bytes = number_bytes(heap, &THICKNESS)?;
     let calls = [
         Call::Make {
             root: 0,
-            kind: NUMBER,
-            len: 8,
-            rows: thickness.as_slice(),
+            rows: thickness(&bytes),
         },
         Call::Make {
             root: 1,
-            kind: MARK,
-            len: 8,
-            rows: &FLAWS,
+            rows: FLAW_ROWS,
         },
         Call::Share { to: 2, from: 0 },
         Call::Share { to: 3, from: 1 },
@@ -144,7 +153,13 @@ fn play_again(rt: &HostRuntime) -> anyhow::Result<()> {
         Call::Release { root: 3 },
     ];
     let mut tally = Tally::default();
-    replay(&mut tables, Session::BASE, &calls, &mut tally);
+    replay(
+        &mut tables.nodes,
+        &mut tables.words,
+        Session::BASE,
+        &calls,
+        &mut tally,
+    );
     let Tally { accepted, refused } = tally;
     println!(rt; "the same calls on a new planner: {accepted} accepted, {refused} refused")?;
     Ok(())

@@ -1,4 +1,4 @@
-use crate::wide::Wide;
+use crate::wide::WIDE_KINDS;
 use encodings::encoding::Encoding;
 use encodings::flat::Flat;
 use encodings::matcher::{AnyArray, Matcher};
@@ -9,7 +9,7 @@ use optimizer::{Bank, EmptyBank};
 use planner::planner::Planner;
 use planner::session::Session;
 use pool::pool::{Tables, WORDS};
-use rows::kinds::{BaseKinds, Joined, RowKinds};
+use rows::kinds::{BaseKinds, RowKinds};
 use std::alloc::Global;
 use std::process::Abort;
 use std::test::Fail;
@@ -46,12 +46,7 @@ fn a_joined_kind_is_made_and_read(rt: HostRuntime) -> Result<(), Fail> {
         words: [7; WORDS],
         ..Tables::EMPTY
     };
-    let kinds = Joined {
-        set: BaseKinds,
-        number: 3,
-        kind: Wide,
-    };
-    let mut planner = Planner::new(&mut tables, session(kinds));
+    let mut planner = Planner::new(&mut tables.nodes, &mut tables.words, session(WIDE_KINDS));
     let heap = rt.alloc();
     answers(
         &rt,
@@ -78,7 +73,7 @@ fn a_joined_kind_is_made_and_read(rt: HostRuntime) -> Result<(), Fail> {
 #[test]
 fn shares_are_released_in_any_order(rt: HostRuntime) -> Result<(), Fail> {
     let mut tables = Tables::EMPTY;
-    let mut planner = Planner::new(&mut tables, session(BaseKinds));
+    let mut planner = Planner::new(&mut tables.nodes, &mut tables.words, session(BaseKinds));
     let heap = rt.alloc();
     answers(&rt, heap, &mut planner, b"010001000100000009", b"00")?;
     for to in 1..8 {

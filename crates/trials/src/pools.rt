@@ -6,7 +6,7 @@ use std::test::Fail;
 #[test]
 fn every_node_opens_once(rt: HostRuntime) -> Result<(), Fail> {
     let mut tables = Tables::EMPTY;
-    let mut pool = Pool::new(&mut tables);
+    let mut pool = Pool::new(&mut tables.nodes, &mut tables.words);
     for i in 0..=255 {
         assert_eq!(rt; pool.open_builder(&BaseKinds, NUMBER, 0), Ok(i));
     }

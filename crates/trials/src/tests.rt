@@ -1,7 +1,7 @@
 use crate::fill::{fill, fill_wide};
-use crate::wide::Wide;
+use crate::wide::{WIDE, WIDE_KINDS};
 use rows::kind::RowKind;
-use rows::kinds::{BaseKinds, Joined, MARK, RowKinds};
+use rows::kinds::{BaseKinds, MARK, RowKinds};
 use rows::mark::Mark;
 use rows::number::Number;
 use rows::row::Row;
@@ -47,13 +47,8 @@ fn a_number_is_four_bytes(rt: HostRuntime) {
 
 #[test]
 fn a_joined_kind_is_read_back(rt: HostRuntime) {
-    let set = Joined {
-        set: BaseKinds,
-        number: 3,
-        kind: Wide,
-    };
-    assert!(rt; set.has(3));
-    assert!(rt; !BaseKinds.has(3));
+    assert!(rt; WIDE_KINDS.has(WIDE));
+    assert!(rt; !BaseKinds.has(WIDE));
     let given = [
         Row { value: 7 },
         Row { value: 0 },
@@ -63,8 +58,8 @@ fn a_joined_kind_is_read_back(rt: HostRuntime) {
     ];
     let mut run = [0; 6];
     fill_wide(&mut run, &given);
-    assert_eq!(rt; set.read(3, &run, 3, 0), given[0]);
-    assert_eq!(rt; set.read(3, &run, 3, 1), given[1]);
-    assert_eq!(rt; set.read(3, &run, 3, 2), given[2]);
+    assert_eq!(rt; WIDE_KINDS.read(WIDE, &run, 3, 0), given[0]);
+    assert_eq!(rt; WIDE_KINDS.read(WIDE, &run, 3, 1), given[1]);
+    assert_eq!(rt; WIDE_KINDS.read(WIDE, &run, 3, 2), given[2]);
     assert_eq!(rt; run[1], u32::MAX - 7);
 }

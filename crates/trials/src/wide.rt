@@ -2,9 +2,20 @@ ghost use Rattle.trials.specs.Wide.{wide};
 ghost use Rattle.trials.specs.Wides.{wide_lawful};
 
 use rows::kind::RowKind;
+use rows::kinds::{BaseKinds, Joined};
 use rows::number::Number;
 use rows::row::Row;
 use rows::words::word_at;
+
+// The number of Wide in the larger set, as each kind has one in a set.
+pub const WIDE: u8 = 3;
+
+// The base set with Wide joined to it.
+pub const WIDE_KINDS: Joined<BaseKinds, Wide> = Joined {
+    set: BaseKinds,
+    number: WIDE,
+    kind: Wide,
+};
 
 // A kind of two words a row: the value, and beside it the value with every bit turned.
 #[derive(Clone, Copy)]

@@ -2,7 +2,6 @@ use Rattle.std.proofs.Common.{◌≡◌, ◌≢◌, ℕ, ◌+◌, ◌*◌, ◌%�
 use Rattle.std.specs.Option.{option_map}
 use Rattle.std.proofs.lemmas.Grind.{common_steps}
 use Rattle.std.proofs.lemmas.List.{drop_more, take_more_set, drop-set-lt, append_assoc}
-use Rattle.std.proofs.lemmas.Iterator.Adapters.{option_map_id}
 use Rattle.lines.specs.Text.{digit, decoded}
 use Rattle.lines.proofs.text.decode.Goals as goal
 
@@ -32,12 +31,6 @@ decode_more s i h l k p q =
 
 pub returns-then-not-is_multiple_of-clause-bytes : goal.returns-then-not-is_multiple_of-clause-bytes
 returns-then-not-is_multiple_of-clause-bytes c = decoded_odd _ (λ e. let even = c.if-not-is_multiple_of.ensures.1 e in cc)
-
-pub loop-i-init : goal.loop-i-init
-loop-i-init c = option_map_id (decoded c.args.line.now)
-
-pub returns-in_err-high-clause-bytes : goal.returns-in_err-high-clause-bytes
-returns-in_err-high-clause-bytes c = let e = two_more c.loop-i.line c.loop-i.i (omega arith) in grind (arith, common_steps, c.in_err-high.ensures.value)
 
 pub loop-i-preserved : goal.loop-i-preserved
 loop-i-preserved c = decode_more c.loop-i.line c.loop-i.i c.in_ok-high.high c.in_ok-low.low (omega arith) c.in_ok-high.ensures.value c.in_ok-low.ensures.value ∙ c.loop-i.invariant

@@ -1,5 +1,5 @@
-use Rattle.std.proofs.Common.{◌≡◌, ◌≤◌, List, [], ◌++◌, map, length, take, sym, refl, ap, ◌∙◌, subst, arith}
-use Rattle.std.proofs.lemmas.List.{append-nil, take_all}
+use Rattle.std.proofs.Common.{◌≡◌, ◌≤◌, List, [], ◌++◌, map, length, take, ap, ◌∙◌, subst, arith}
+use Rattle.std.proofs.lemmas.List.{take_all}
 use Rattle.rows.specs.Kind.{Kinds}
 use Rattle.planner.specs.declared.call.Call.{Call}
 use Rattle.planner.specs.declared.session.Session.{Session}
@@ -10,13 +10,6 @@ use Rattle.planner.proofs.Histories.{history_law}
 use Rattle.planner.proofs.Outcomes.{state_is}
 use Rattle.planner.proofs.Playing.{play_more, played_answered}
 use Rattle.planner.proofs.replay.replay.Goals as goal
-
-pub loop-call-init : goal.loop-call-init
-loop-call-init g c = (
-  (λ before h. subst (λ (l : List Said). g.L.Listener.hears c.args.listener.now l) (sym (append-nil before)) h),
-  c.new-planner.ensures.state,
-  refl,
-)
 
 pub loop-call-preserved : goal.loop-call-preserved
 loop-call-preserved g c =

@@ -1,15 +1,24 @@
-use Rattle.std.proofs.Common.{rules, ap, refl}
+use Rattle.std.proofs.Common.{rules, ◌≡◌, ap, refl, ◌∙◌}
+use Rattle.planner.specs.declared.planner.Planner.{Planner}
 use Rattle.planner.specs.declared.session.Session.{Session}
+use Rattle.planner.specs.Calls.{told}
+use Rattle.planner.specs.Called.{called}
+use Rattle.planner.specs.Contract.{outcome}
+use Rattle.planner.specs.Seen.{state_of}
 use Rattle.planner.proofs.planner.Planner.answer_with.Goals as goal
-
-pub returns-in-Make-clause-handed : goal.returns-in-Make-clause-handed
-returns-in-Make-clause-handed g c = (_, _, _, _, ap (λ (x : Session _ _ _ _). x.kinds) c.make-res.ensures.session, search rules, refl, refl, c.hand.ensures)
-
-pub returns-in-Share-clause-handed : goal.returns-in-Share-clause-handed
-returns-in-Share-clause-handed g c = (_, _, _, _, ap (λ (x : Session _ _ _ _). x.kinds) c.share-res.ensures.session, search rules, refl, refl, c.hand-in-Share.ensures)
-
-pub returns-in-Release-clause-handed : goal.returns-in-Release-clause-handed
-returns-in-Release-clause-handed g c = (_, _, _, _, ap (λ (x : Session _ _ _ _). x.kinds) c.release-res.ensures.session, search rules, refl, refl, c.hand-in-Release.ensures)
+use Rattle.planner.proofs.planner.Planner.answer_with.Goals.{in-Make, in-Share, in-Release}
 
 pub returns-in-Read-clause-handed : goal.returns-in-Read-clause-handed
-returns-in-Read-clause-handed g c = (_, _, _, _, refl, search rules, refl, refl, c.hand-in-Read.ensures)
+returns-in-Read-clause-handed g c = (_, _, _, _, refl, search rules, refl, refl, c.hand.ensures)
+
+pub returns-clause-handed : goal.returns-clause-handed
+returns-clause-handed g c =
+    let kept : c.match-call.self.session ≡ c.args.self.now.session
+    = elim c.match-call.branch [
+      | in-Make w ↦ ap (λ (p : Planner _ _ _ _). p.session) w.self-is ∙ w.make-res.ensures.session
+      | in-Share w ↦ ap (λ (p : Planner _ _ _ _). p.session) w.self-is ∙ w.share-res.ensures.session
+      | in-Release w ↦ ap (λ (p : Planner _ _ _ _). p.session) w.self-is ∙ w.release-res.ensures.session
+    ] in
+    let said_so : outcome c.match-call.res ≡ (called (g.K.RowKinds.kinds c.args.self.now.session.kinds) (state_of c.args.self.now) (told c.args.call)).0
+    = elim c.match-call.branch [ in-Make w ↦ search rules | in-Share w ↦ search rules | in-Release w ↦ search rules ] in
+    (_, _, _, _, ap (λ (x : Session _ _ _ _). x.kinds) kept, c.answer.ensures ∙ said_so, refl, refl, c.hand-2.ensures)

@@ -14,7 +14,7 @@ use Rattle.planner.specs.Called.{State, root_in, rows_made, placed}
 use Rattle.planner.specs.Contract.{outcome, rows_parsed}
 use Rattle.planner.specs.Seen.{state_of}
 use Rattle.planner.proofs.Invariant.{Ghosts, ghosts_of, ordered_of}
-use Rattle.planner.proofs.Making.{made_known, made_none, made_sized, few_rows, rows_known, build_kept, build_ordered}
+use Rattle.planner.proofs.Making.{made_known, made_none, rows_known, build_kept, build_ordered}
 use Rattle.planner.proofs.Outcomes.{answered, root_ok, made_is, make_by, taken_by, empty_by}
 use Rattle.planner.proofs.planner.Planner.make.Goals as goal
 
@@ -23,7 +23,7 @@ returns-then-not-is_sized g c =
     let s : State = state_of c.args.self.now in
     let ks : Kinds = g.K.RowKinds.kinds c.args.self.now.session.kinds in
     answered g.met.K.RowKinds.lawful g.E.Encoding.lawful
-    (made_is ks s c.args.root c.args.kind c.args.len c.args.rows.now false (root_in s c.args.root) (rows_made ks c.args.kind c.args.len c.args.rows.now) (sym c.if-not-is_sized.ensures) refl refl)
+    (made_is ks s c.args.root c.args.rows.kind c.args.rows.len c.args.rows.bytes.now false (root_in s c.args.root) (rows_made ks c.args.rows.kind c.args.rows.len c.args.rows.bytes.now) (sym c.if-not-is_sized.ensures) refl refl)
     refl
 
 pub returns-in_err-root : goal.returns-in_err-root
@@ -33,17 +33,17 @@ returns-in_err-root g c =
     let p = err_from_is_err_and c.from_residual.result c.from_residual.ensures.1 in
     answered g.met.K.RowKinds.lawful g.E.Encoding.lawful
     (ap (λ r. (outcome r, s)) p.1 ∙ ap (λ x. (refused x, s)) p.2
-    ∙ made_is ks s c.args.root c.args.kind c.args.len c.args.rows.now true (Err c.in_err-root.field-0.0) (rows_made ks c.args.kind c.args.len c.args.rows.now) (sym c.if-not-is_sized.ensures) (sym c.in_err-root.was ∙ c.root.ensures) refl)
+    ∙ made_is ks s c.args.root c.args.rows.kind c.args.rows.len c.args.rows.bytes.now true (Err c.in_err-root.field-0.0) (rows_made ks c.args.rows.kind c.args.rows.len c.args.rows.bytes.now) (sym c.if-not-is_sized.ensures) (sym c.in_err-root.was ∙ c.root.ensures) refl)
     refl
 
 pub returns-then-is_some : goal.returns-then-is_some
 returns-then-is_some g c =
     let s : State = state_of c.args.self.now in
     let ks : Kinds = g.K.RowKinds.kinds c.args.self.now.session.kinds in
-    let rs : Option (List Row) = rows_made ks c.args.kind c.args.len c.args.rows.now in
+    let rs : Option (List Row) = rows_made ks c.args.rows.kind c.args.rows.len c.args.rows.bytes.now in
     answered g.met.K.RowKinds.lawful g.E.Encoding.lawful
-    (taken_by (refused RootTaken, s) (make_by ks s c.args.root c.args.kind c.args.len true (Ok None) rs) c.in_ok-root.field-0 (sym c.if-is_some.ensures)
-    ∙ made_is ks s c.args.root c.args.kind c.args.len c.args.rows.now true (Ok c.in_ok-root.field-0) rs (sym c.if-not-is_sized.ensures) (sym c.in_ok-root.was ∙ c.root.ensures) refl)
+    (taken_by (refused RootTaken, s) (make_by ks s c.args.root c.args.rows.kind c.args.rows.len true (Ok None) rs) c.in_ok-root.field-0 (sym c.if-is_some.ensures)
+    ∙ made_is ks s c.args.root c.args.rows.kind c.args.rows.len c.args.rows.bytes.now true (Ok c.in_ok-root.field-0) rs (sym c.if-not-is_sized.ensures) (sym c.in_ok-root.was ∙ c.root.ensures) refl)
     refl
 
 -- a root that exists and is not taken is empty
@@ -55,29 +55,19 @@ returns-then-not-are_rows g c =
     let s : State = state_of c.args.self.now in
     let ks : Kinds = g.K.RowKinds.kinds c.args.self.now.session.kinds in
     answered g.met.K.RowKinds.lawful g.E.Encoding.lawful
-    (made_is ks s c.args.root c.args.kind c.args.len c.args.rows.now true (Ok None) None (sym c.if-not-is_sized.ensures)
-    (free s c.args.root c.root.result c.in_ok-root.field-0 c.in_ok-root.was c.root.ensures (sym c.if-is_some.ensures)) (made_none ks c.args.kind c.args.len c.args.rows.now (sym c.if-not-are_rows.ensures)))
+    (made_is ks s c.args.root c.args.rows.kind c.args.rows.len c.args.rows.bytes.now true (Ok None) None (sym c.if-not-is_sized.ensures)
+    (free s c.args.root c.root.result c.in_ok-root.field-0 c.in_ok-root.was c.root.ensures (sym c.if-is_some.ensures)) (made_none ks c.args.rows.kind c.args.rows.len c.args.rows.bytes.now (sym c.if-not-are_rows.ensures)))
     refl
-
-pub build-requires : goal.build-requires
-build-requires g c =
-    let ks : Kinds = g.K.RowKinds.kinds c.args.self.now.session.kinds in
-    let known = made_known ks c.args.kind c.args.len c.args.rows.now (sym c.if-not-are_rows.ensures) in
-    record {
-      sized = (c.args.self.now.nodes_long, (c.args.self.now.words_long, few_rows ks c.args.kind c.args.len c.args.rows.now known.0));
-      bytes = made_sized ks c.args.kind c.args.len c.args.rows.now (sym c.if-not-is_sized.ensures) known.0;
-      parse = known.1;
-    }
 
 pub invariant_of-self : goal.invariant_of-self
 invariant_of-self g c =
     let ks : Kinds = g.K.RowKinds.kinds c.args.self.now.session.kinds in
     let m : Memory = (state_of c.args.self.now).memory in
-    let known = made_known ks c.args.kind c.args.len c.args.rows.now (sym c.if-not-are_rows.ensures) in
-    let e : (Err c.in_err-node.field-0.0, memory_of c.build.new.pool) ≡ built ks m c.args.kind c.args.len (rows_parsed (ks.kind c.args.kind) c.args.len c.args.rows.now)
+    let known = made_known ks c.args.rows.kind c.args.rows.len c.args.rows.bytes.now (sym c.if-not-are_rows.ensures) in
+    let e : (Err c.in_err-node.field-0.0, memory_of c.build.new.pool) ≡ built ks m c.args.rows.kind c.args.rows.len (rows_parsed (ks.kind c.args.rows.kind) c.args.rows.len c.args.rows.bytes.now)
     = ap (λ (r : Result ℕ PoolFault). (r, memory_of c.build.new.pool)) (sym c.in_err-node.was) ∙ c.build.ensures in
     let same : memory_of c.build.new.pool ≡ m
-    = build_kept ks c.args.kind c.args.len c.args.rows.now m c.args.self.now.roots (ordered_of c.args.self.now) ((g.met.K.RowKinds.lawful c.args.self.now.session.kinds).lawful c.args.kind) known.1 c.in_err-node.field-0.0 (memory_of c.build.new.pool) e in
+    = build_kept ks c.args.rows.kind c.args.rows.len c.args.rows.bytes.now m c.args.self.now.roots (ordered_of c.args.self.now) ((g.met.K.RowKinds.lawful c.args.self.now.session.kinds).lawful c.args.rows.kind) known.1 c.in_err-node.field-0.0 (memory_of c.build.new.pool) e in
     subst (λ (x : Memory). Ghosts x c.args.self.now.roots) (sym same) (ghosts_of m c.args.self.now.roots c.args.self.now.roots_long (ordered_of c.args.self.now))
 
 pub returns-in_err-node : goal.returns-in_err-node
@@ -85,15 +75,15 @@ returns-in_err-node g c =
     let p = err_from_is_err_and c.from_residual-in_err-node.result c.from_residual-in_err-node.ensures.1 in
     let s : State = state_of c.args.self.now in
     let ks : Kinds = g.K.RowKinds.kinds c.args.self.now.session.kinds in
-    let rs : List Row = rows_parsed (ks.kind c.args.kind) c.args.len c.args.rows.now in
-    let known = made_known ks c.args.kind c.args.len c.args.rows.now (sym c.if-not-are_rows.ensures) in
-    let e : (Err c.in_err-node.field-0.0, memory_of c.build.new.pool) ≡ built ks s.memory c.args.kind c.args.len rs
+    let rs : List Row = rows_parsed (ks.kind c.args.rows.kind) c.args.rows.len c.args.rows.bytes.now in
+    let known = made_known ks c.args.rows.kind c.args.rows.len c.args.rows.bytes.now (sym c.if-not-are_rows.ensures) in
+    let e : (Err c.in_err-node.field-0.0, memory_of c.build.new.pool) ≡ built ks s.memory c.args.rows.kind c.args.rows.len rs
     = ap (λ (r : Result ℕ PoolFault). (r, memory_of c.build.new.pool)) (sym c.in_err-node.was) ∙ c.build.ensures in
     answered g.met.K.RowKinds.lawful g.E.Encoding.lawful
     (ap (λ (a : Said). (a, record { memory = memory_of c.build.new.pool; roots = s.roots })) (ap (λ r. outcome r) p.1 ∙ ap (λ x. refused x) p.2)
     ∙ ap (λ (b : Result ℕ PoolFault × Memory). placed s c.args.root b) e
-    ∙ made_is ks s c.args.root c.args.kind c.args.len c.args.rows.now true (Ok None) (Some rs) (sym c.if-not-is_sized.ensures)
-    (free s c.args.root c.root.result c.in_ok-root.field-0 c.in_ok-root.was c.root.ensures (sym c.if-is_some.ensures)) (rows_known ks c.args.kind c.args.len c.args.rows.now known.0 known.1))
+    ∙ made_is ks s c.args.root c.args.rows.kind c.args.rows.len c.args.rows.bytes.now true (Ok None) (Some rs) (sym c.if-not-is_sized.ensures)
+    (free s c.args.root c.root.result c.in_ok-root.field-0 c.in_ok-root.was c.root.ensures (sym c.if-is_some.ensures)) (rows_known ks c.args.rows.kind c.args.rows.len c.args.rows.bytes.now known.0 known.1))
     refl
 
 pub invariant_of-self-2 : goal.invariant_of-self-2
@@ -102,24 +92,24 @@ invariant_of-self-2 g c =
     let m : Memory = (state_of c.args.self.now).memory in
     let t = root_ok (state_of c.args.self.now) c.args.root c.in_ok-root.field-0 (sym c.in_ok-root.was ∙ c.root.ensures) in
     let long : length c.args.self.now.roots ≡ 32 = c.args.self.now.roots_long in
-    let known = made_known ks c.args.kind c.args.len c.args.rows.now (sym c.if-not-are_rows.ensures) in
-    let e : (Ok c.in_ok-node.node, memory_of c.build.new.pool) ≡ built ks m c.args.kind c.args.len (rows_parsed (ks.kind c.args.kind) c.args.len c.args.rows.now)
+    let known = made_known ks c.args.rows.kind c.args.rows.len c.args.rows.bytes.now (sym c.if-not-are_rows.ensures) in
+    let e : (Ok c.in_ok-node.node, memory_of c.build.new.pool) ≡ built ks m c.args.rows.kind c.args.rows.len (rows_parsed (ks.kind c.args.rows.kind) c.args.rows.len c.args.rows.bytes.now)
     = ap (λ (r : Result ℕ PoolFault). (r, memory_of c.build.new.pool)) (sym c.in_ok-node.was) ∙ c.build.ensures in
     ghosts_of (memory_of c.build.new.pool) (set c.args.self.now.roots c.args.root (Some c.in_ok-node.node))
     (length-set c.args.self.now.roots c.args.root (Some c.in_ok-node.node) ∙ long)
-    (build_ordered ks c.args.kind c.args.len c.args.rows.now m c.args.self.now.roots (ordered_of c.args.self.now) ((g.met.K.RowKinds.lawful c.args.self.now.session.kinds).lawful c.args.kind) known.1
+    (build_ordered ks c.args.rows.kind c.args.rows.len c.args.rows.bytes.now m c.args.self.now.roots (ordered_of c.args.self.now) ((g.met.K.RowKinds.lawful c.args.self.now.session.kinds).lawful c.args.rows.kind) known.1
     c.in_ok-node.node (memory_of c.build.new.pool) c.args.root e (omega (arith, t.0)) (t.1 ∙ empty_by c.in_ok-root.field-0 (sym c.if-is_some.ensures)))
 
 pub returns : goal.returns
 returns g c =
     let s : State = state_of c.args.self.now in
     let ks : Kinds = g.K.RowKinds.kinds c.args.self.now.session.kinds in
-    let rs : List Row = rows_parsed (ks.kind c.args.kind) c.args.len c.args.rows.now in
-    let known = made_known ks c.args.kind c.args.len c.args.rows.now (sym c.if-not-are_rows.ensures) in
-    let e : (Ok c.in_ok-node.node, memory_of c.build.new.pool) ≡ built ks s.memory c.args.kind c.args.len rs
+    let rs : List Row = rows_parsed (ks.kind c.args.rows.kind) c.args.rows.len c.args.rows.bytes.now in
+    let known = made_known ks c.args.rows.kind c.args.rows.len c.args.rows.bytes.now (sym c.if-not-are_rows.ensures) in
+    let e : (Ok c.in_ok-node.node, memory_of c.build.new.pool) ≡ built ks s.memory c.args.rows.kind c.args.rows.len rs
     = ap (λ (r : Result ℕ PoolFault). (r, memory_of c.build.new.pool)) (sym c.in_ok-node.was) ∙ c.build.ensures in
     answered g.met.K.RowKinds.lawful g.E.Encoding.lawful
     (ap (λ (b : Result ℕ PoolFault × Memory). placed s c.args.root b) e
-    ∙ made_is ks s c.args.root c.args.kind c.args.len c.args.rows.now true (Ok None) (Some rs) (sym c.if-not-is_sized.ensures)
-    (free s c.args.root c.root.result c.in_ok-root.field-0 c.in_ok-root.was c.root.ensures (sym c.if-is_some.ensures)) (rows_known ks c.args.kind c.args.len c.args.rows.now known.0 known.1))
+    ∙ made_is ks s c.args.root c.args.rows.kind c.args.rows.len c.args.rows.bytes.now true (Ok None) (Some rs) (sym c.if-not-is_sized.ensures)
+    (free s c.args.root c.root.result c.in_ok-root.field-0 c.in_ok-root.was c.root.ensures (sym c.if-is_some.ensures)) (rows_known ks c.args.rows.kind c.args.rows.len c.args.rows.bytes.now known.0 known.1))
     refl

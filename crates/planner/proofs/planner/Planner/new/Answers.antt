@@ -1,4 +1,4 @@
-use Rattle.std.proofs.Common.{◌≡◌, replicate, None, sym, refl, ap, subst}
+use Rattle.std.proofs.Common.{replicate, None, sym, refl, subst}
 use Rattle.pool.specs.Memory.{Memory}
 use Rattle.planner.specs.Called.{new_state}
 use Rattle.planner.proofs.Invariant.{Ghosts, ghosts_of}
@@ -7,9 +7,3 @@ use Rattle.planner.proofs.planner.Planner.new.Goals as goal
 
 pub invariant_of-result : goal.invariant_of-result
 invariant_of-result g c = subst (λ (m : Memory). Ghosts m (replicate 32 None)) (sym c.new.ensures) (ghosts_of new_state.memory (replicate 32 None) refl new_ordered)
-
-pub returns : goal.returns
-returns g c =
-    let e : record { memory = record { nodes = c.new.result.nodes.now; words = c.new.result.words.now }; roots = replicate 32 None } ≡ new_state
-    = ap (λ (m : Memory). record { memory = m; roots = replicate 32 None }) c.new.ensures in
-    record { state = e; reached = record { answered = tt; here = sym e }; session = refl }

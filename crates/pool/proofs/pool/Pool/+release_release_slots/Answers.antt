@@ -4,13 +4,9 @@ use Rattle.pool.specs.Memory.{Memory, slots_at, start_at, run_at, overwritten, w
 use Rattle.pool.specs.Order.{Within}
 use Rattle.pool.specs.Sharing.{vacated, each_slot, released}
 use Rattle.pool.specs.Seen.{memory_of}
-use Rattle.pool.proofs.Counted.{owed_in}
 use Rattle.pool.proofs.Naming.{turn_splits, end_gives}
 use Rattle.pool.proofs.Releasing.{code_sound, code_last, code_less, last_good, last_low, next_good, next_low, next_gives}
 use Rattle.pool.proofs.pool.Pool.+release_release_slots.Goals as goal
-
-pub release-bounds-self-n : goal.release-bounds-self-n
-release-bounds-self-n t c = owed_in c.args.self.now.nodes.now c.args.n c.requires.owed.0 c.requires.owed.1
 
 pub release-returns-then-node-ne1 : goal.release-returns-then-node-ne1
 release-returns-then-node-ne1 t c = code_less (memory_of c.args.self.now) c.args.n c.requires.owed c.requires.falling c.requires.within c.if-node-ne1.true

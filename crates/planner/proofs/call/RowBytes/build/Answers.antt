@@ -1,4 +1,4 @@
-use Rattle.std.proofs.Common.{◌≡◌, ℕ, ◌*◌, List, length, get_or, take, drop, Some, None, Ok, sym, refl, ap, ◌∙◌, subst, arith}
+use Rattle.std.proofs.Common.{rules, ◌≡◌, ℕ, ◌*◌, List, length, get_or, take, drop, Some, Ok, sym, refl, ap, ◌∙◌, subst, arith}
 use Rattle.std.proofs.lemmas.List.{take_all}
 use Rattle.rows.specs.declared.row.Row.{Row}
 use Rattle.rows.specs.Kind.{Kind, Kinds, LawfulKind}
@@ -8,8 +8,12 @@ use Rattle.pool.specs.Seen.{memory_of}
 use Rattle.planner.specs.Contract.{rows_parsed}
 use Rattle.planner.proofs.Parsing.{parsed_some, parsed_long}
 use Rattle.planner.proofs.Filling.{opened_ok, open_at, builder_inside, append_step, built_ok}
-use Rattle.planner.proofs.make.RowBytes.build.Goals as goal
-use Rattle.planner.proofs.make.RowBytes.build.Goals.{in-Some, in_default}
+use Rattle.planner.proofs.call.RowBytes.build.Goals as goal
+
+pub unwrap-row-requires : goal.unwrap-row-requires
+unwrap-row-requires g c =
+    let kd : Kind = (g.K.RowKinds.kinds c.args.kinds.now).kind c.args.self.now.kind in
+    rw (c.row.ensures ∙ parsed_some kd c.args.self.now.len c.args.self.now.bytes.now c.loop-k.k (record { value = 0 }) c.loop-k-test.true c.requires.parse) (search rules)
 
 pub append-requires : goal.append-requires
 append-requires g c =
@@ -21,11 +25,11 @@ append-requires g c =
     let rs : List Row = rows_parsed kd c.args.self.now.len c.args.self.now.bytes.now in
     let o = open_at ks (memory_of c.args.pool.now) q c.args.self.now.kind c.args.self.now.len (kd.words c.args.self.now.len) i law
     (opened_ok (memory_of c.args.pool.now) c.args.self.now.kind c.args.self.now.len (kd.words c.args.self.now.len) i q _ c.in_ok-node.was c.open_builder.ensures)
-    (take c.loop-k.k rs) c.loop-k.k c.in-Some.row refl c.loop-k-test.true
-    (law.parsed_taken _ c.in-Some.row (sym c.in-Some.ensures)) in
-    subst (λ (m : Memory). Open ks m c.loop-k.builder.node c.loop-k.builder.filled c.in-Some.row) (sym c.loop-k.invariant.0)
-    (subst (λ (x : ℕ). Open ks (append_rows ks q i 0 (take c.loop-k.k rs)) x c.loop-k.builder.filled c.in-Some.row) (sym c.loop-k.invariant.1)
-    (subst (λ (x : ℕ). Open ks (append_rows ks q i 0 (take c.loop-k.k rs)) i x c.in-Some.row) (sym c.loop-k.invariant.2) o))
+    (take c.loop-k.k rs) c.loop-k.k c.unwrap-row.result refl c.loop-k-test.true
+    (law.parsed_taken _ c.unwrap-row.result (sym c.row.ensures ∙ c.unwrap-row.ensures)) in
+    subst (λ (m : Memory). Open ks m c.loop-k.builder.node c.loop-k.builder.filled c.unwrap-row.result) (sym c.loop-k.invariant.0)
+    (subst (λ (x : ℕ). Open ks (append_rows ks q i 0 (take c.loop-k.k rs)) x c.loop-k.builder.filled c.unwrap-row.result) (sym c.loop-k.invariant.1)
+    (subst (λ (x : ℕ). Open ks (append_rows ks q i 0 (take c.loop-k.k rs)) i x c.unwrap-row.result) (sym c.loop-k.invariant.2) o))
 
 pub loop-k-preserved : goal.loop-k-preserved
 loop-k-preserved g c =
@@ -40,24 +44,17 @@ loop-k-preserved g c =
     let d : Row = record { value = 0 } in
     let at : kd.parsed (take kd.width (drop (k * kd.width) c.args.self.now.bytes.now)) ≡ Some (get_or rs k d)
     = parsed_some kd c.args.self.now.len c.args.self.now.bytes.now k d c.loop-k-test.true c.requires.parse in
-    elim c.match-row.branch [
-      | in-Some w ↦
-          let same : Some w.in-Some.row ≡ Some (get_or rs k d) = w.in-Some.ensures ∙ at in
-          let row : w.in-Some.row ≡ get_or rs k d = cc in (
-            ap (λ p. memory_of p) w.pool-is
-                ∙ w.append.ensures.after
-                ∙ ap (λ (m : Memory). append_row ks m c.loop-k.builder.node c.loop-k.builder.filled w.in-Some.row) c.loop-k.invariant.0
-                ∙ ap (λ (x : ℕ). append_row ks (append_rows ks q i 0 (take k rs)) x c.loop-k.builder.filled w.in-Some.row) c.loop-k.invariant.1
-                ∙ ap (λ (x : ℕ). append_row ks (append_rows ks q i 0 (take k rs)) i x w.in-Some.row) c.loop-k.invariant.2
-                ∙ ap (λ (x : Row). append_row ks (append_rows ks q i 0 (take k rs)) i k x) row
-                ∙ append_step ks q i rs k d (omega arith),
-            ap (λ b. b.node) w.builder-is ∙ w.append.ensures.node ∙ c.loop-k.invariant.1,
-            omega (arith, ap (λ b. b.filled) w.builder-is, w.append.ensures.filled, c.loop-k.invariant.2),
-          )
-      | in_default w ↦
-          let none : None ≡ Some (get_or rs k d) = w.in_default.ensures ∙ at in
-          let z : ◌≡◌ {A = ℕ} 0 1 = cc in absurd (omega arith)
-    ]
+    let same : Some c.unwrap-row.result ≡ Some (get_or rs k d) = sym c.unwrap-row.ensures ∙ c.row.ensures ∙ at in
+    let row : c.unwrap-row.result ≡ get_or rs k d = cc in (
+      c.append.ensures.after
+          ∙ ap (λ (m : Memory). append_row ks m c.loop-k.builder.node c.loop-k.builder.filled c.unwrap-row.result) c.loop-k.invariant.0
+          ∙ ap (λ (x : ℕ). append_row ks (append_rows ks q i 0 (take k rs)) x c.loop-k.builder.filled c.unwrap-row.result) c.loop-k.invariant.1
+          ∙ ap (λ (x : ℕ). append_row ks (append_rows ks q i 0 (take k rs)) i x c.unwrap-row.result) c.loop-k.invariant.2
+          ∙ ap (λ (x : Row). append_row ks (append_rows ks q i 0 (take k rs)) i k x) row
+          ∙ append_step ks q i rs k d (omega arith),
+      c.append.ensures.node ∙ c.loop-k.invariant.1,
+      omega (arith, c.append.ensures.filled, c.loop-k.invariant.2),
+    )
 
 pub finish-requires : goal.finish-requires
 finish-requires g c =

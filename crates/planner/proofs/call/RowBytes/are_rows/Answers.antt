@@ -5,7 +5,7 @@ use Rattle.rows.specs.Kind.{Kind}
 use Rattle.planner.specs.Called.{parsed_row, parsed_rows}
 use Rattle.planner.proofs.Making.{rows_are}
 use Rattle.planner.proofs.Parsing.{parsed_all}
-use Rattle.planner.proofs.make.RowBytes.are_rows.Goals as goal
+use Rattle.planner.proofs.call.RowBytes.are_rows.Goals as goal
 
 pub returns-then-is_in_range : goal.returns-then-is_in_range
 returns-then-is_in_range g c =

@@ -2,7 +2,7 @@ use Rattle.std.proofs.Common.{◌≡◌, take}
 use Rattle.pool.specs.Building.{append_rows}
 use Rattle.pool.specs.Seen.{memory_of}
 use Rattle.planner.specs.Contract.{rows_parsed}
-use Rattle.planner.proofs.make.RowBytes.build.Given as goal
+use Rattle.planner.proofs.call.RowBytes.build.Given as goal
 
 abbrev pub invariant-loop-k : goal.invariant-loop-k
 invariant-loop-k g l =
