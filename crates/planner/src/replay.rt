@@ -1,14 +1,16 @@
-ghost use Rattle.std.specs.Prelude.{[], ◌∷◌, map};
+ghost use Rattle.std.specs.Prelude.{◌≡◌, [], ◌∷◌, map};
+ghost use Rattle.pool.specs.Seen.{nodes_used, words_used};
 ghost use Rattle.planner.specs.Called.{called};
 ghost use Rattle.planner.specs.Calls.{told, Hears};
-ghost use Rattle.planner.specs.Contract.{Handed, played, answers};
-ghost use Rattle.planner.specs.Law.{Law};
+ghost use Rattle.planner.specs.Contract.{Handed, played, answers, roots_used};
+ghost use Rattle.planner.specs.Law.{Law, state_after};
 ghost use Rattle.planner.specs.Seen.{state_of, Answers};
 
 use crate::answer::{answer, read_answer};
 use crate::call::{Answer, Call};
 use crate::listener::Listener;
 use crate::planner::Planner;
+use crate::read::Usage;
 use crate::session::Session;
 use encodings::encoding::Encoding;
 use encodings::matcher::Matcher;
@@ -50,7 +52,7 @@ impl<K: RowKinds, E: Encoding, B: Bank, M: Matcher> Planner<'_, K, E, B, M> {
     }
 }
 
-// Plays a list of calls on a new planner, and hands each answer to a listener.
+// Plays a list of calls on a new planner, hands each answer to a listener, and says how much is in use then.
 pub fn replay<
     K: RowKinds + Drop,
     E: Encoding + Drop,
@@ -63,12 +65,16 @@ pub fn replay<
     session: Session<K, E, B, M>,
     calls: &[Call],
     listener: &mut L,
-)
+) -> Usage
     ensures heard { Hears L.Listener.hears listener.old listener.new (answers (played (K.RowKinds.kinds session.kinds) [] (map told calls.now))) }
     ensures law { Law (K.RowKinds.kinds session.kinds) (E.Encoding.means session.encodings (K.RowKinds.kinds session.kinds)) (played (K.RowKinds.kinds session.kinds) [] (map told calls.now)) }
+    ensures roots { result.roots ≡ roots_used (state_after (played (K.RowKinds.kinds session.kinds) [] (map told calls.now))).roots }
+    ensures nodes { result.nodes ≡ nodes_used (state_after (played (K.RowKinds.kinds session.kinds) [] (map told calls.now))).memory.nodes }
+    ensures words { result.words ≡ words_used (state_after (played (K.RowKinds.kinds session.kinds) [] (map told calls.now))).memory.nodes }
 {
     let mut planner = Planner::new(nodes, words, session);
     for call in calls {
         planner.serve(*call, listener);
     }
+    planner.inspect()
 }

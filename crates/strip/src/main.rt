@@ -55,12 +55,12 @@ fn tell(
 }
 
 // Says how much is in use.
-fn tell_usage(rt: &HostRuntime, planner: &BasePlanner<'_>) -> anyhow::Result<()> {
+fn tell_usage(rt: &HostRuntime, usage: Usage) -> anyhow::Result<()> {
     let Usage {
         roots,
         nodes,
         words,
-    } = planner.inspect();
+    } = usage;
     println!(rt; "  in use: {roots} of 32 roots, {nodes} of 256 nodes, {words} of 8192 words")?;
     Ok(())
 }
@@ -113,19 +113,19 @@ fn lay(rt: &HostRuntime) -> anyhow::Result<()> {
         "make the flaw marks under root 1",
         planner.make(1, FLAW_ROWS),
     )?;
-    tell_usage(rt, &planner)?;
+    tell_usage(rt, planner.inspect())?;
     tell(rt, "share root 0 as root 2", planner.share(2, 0))?;
     tell(rt, "share root 1 as root 3", planner.share(3, 1))?;
-    tell_usage(rt, &planner)?;
+    tell_usage(rt, planner.inspect())?;
     tell(rt, "release root 0", planner.release(0))?;
     tell(rt, "release root 1", planner.release(1))?;
     tell(rt, "release root 1 again", planner.release(1))?;
-    tell_usage(rt, &planner)?;
+    tell_usage(rt, planner.inspect())?;
     compare(rt, &planner, 2, &THICKNESS)?;
     compare(rt, &planner, 3, &FLAWS.map(u32::from))?;
     tell(rt, "release root 2", planner.release(2))?;
     tell(rt, "release root 3", planner.release(3))?;
-    tell_usage(rt, &planner)
+    tell_usage(rt, planner.inspect())
 }
 
 // Plays the same calls, as a list, on a new planner, and tells how they were answered.
@@ -153,7 +153,7 @@ fn play_again(rt: &HostRuntime) -> anyhow::Result<()> {
         Call::Release { root: 3 },
     ];
     let mut tally = Tally::default();
-    replay(
+    let usage = replay(
         &mut tables.nodes,
         &mut tables.words,
         Session::BASE,
@@ -162,7 +162,7 @@ fn play_again(rt: &HostRuntime) -> anyhow::Result<()> {
     );
     let Tally { accepted, refused } = tally;
     println!(rt; "the same calls on a new planner: {accepted} accepted, {refused} refused")?;
-    Ok(())
+    tell_usage(rt, usage)
 }
 
 fn main(rt: HostRuntime) -> anyhow::Result<()> {
