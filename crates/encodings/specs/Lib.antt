@@ -1,3 +1,13 @@
+pub mod Ids
 pub mod Meaning
-pub mod Flat
 pub mod Rows
+pub mod Step
+pub mod Flattening
+pub mod Flat
+pub mod Constant
+pub mod RunEnd
+pub mod Dict
+pub mod Chunked
+pub mod Slice
+pub mod Pairing
+pub mod Pinned

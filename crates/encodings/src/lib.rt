@@ -1,5 +1,7 @@
 #![tactic(auto)]
 
 pub mod encoding;
-pub mod flat;
+pub mod fields;
+pub mod flatten;
 pub mod matcher;
+pub mod step;

@@ -62,7 +62,7 @@ fn answer_lines(
 fn main(rt: HostRuntime) -> io::Result<()> {
     let heap = rt.alloc();
     let mut tables = Tables::EMPTY;
-    let mut planner = Planner::new(&mut tables.nodes, &mut tables.words, Session::BASE);
+    let mut planner = Planner::new(&mut tables.nodes, &mut tables.words, Session::base());
     let mut input = BufReader::new(heap, rt.stdin())?;
     answer_lines(heap, &mut planner, &mut input, &mut rt.stdout())
 }

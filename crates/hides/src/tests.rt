@@ -66,7 +66,7 @@ fn a_line_is_answered_before_the_next_is_read(rt: HostRuntime) -> Result<(), Fai
         },
     )?;
     let mut tables = Tables::EMPTY;
-    let mut planner = Planner::new(&mut tables.nodes, &mut tables.words, Session::BASE);
+    let mut planner = Planner::new(&mut tables.nodes, &mut tables.words, Session::base());
     answer_lines(heap, &mut planner, &mut input, &mut Hearer(&answered))?;
     assert_eq!(rt; answered.get(), 4);
     Ok(())

@@ -1,11 +1,14 @@
 -- A call comes from one text alone.
-use Rattle.std.proofs.Common.{◌≡◌, ℕ, zero, suc, ◌/◌, ◌%◌, ◌<◌, Bool, true, false, ◌⊎◌, List, [], ◌∷◌, take, Some, None, Option, refl, inl, inr, arith}
+use Rattle.std.proofs.Common.{◌≡◌, ℕ, zero, suc, ◌*◌, ◌/◌, ◌%◌, ◌<◌, ◌≤◌, true, ◌⊎◌, List, [], ◌∷◌, length, take, drop, Some, None, Option, refl, inl, inr, arith}
+use Rattle.std.specs.List.{slice_index}
+use Rattle.std.proofs.Math.Seq.{take-nil}
+use Rattle.std.proofs.lemmas.Grind.{common_steps}
+use Rattle.std.proofs.lemmas.List.{drop_more}
 use Rattle.std.proofs.lemmas.Bool.Decides.{nat_tests}
 use Rattle.rows.specs.Kind.{Kinds, Bytes}
-use Rattle.planner.specs.Calls.{Told, make, share, release, read}
-use Rattle.planner.specs.Called.{in_range}
+use Rattle.planner.specs.Calls.{Told, make, assemble, share, release, read}
 use Rattle.lines.specs.Text.{pair, decoded, spell, spelled}
-use Rattle.lines.specs.Parse.{two, rows_of, parsed, asked, unchecked, FromOneText}
+use Rattle.lines.specs.Parse.{make_of, assemble_of, body_of, parsed, asked, unchecked, header, FromOneText}
 
 -- two digits are the ones that their byte is spelled as
 pair_spelled : (a b x : ℕ) → pair a b ≡ Some x → (x < 256) × (spell (x / 16) ≡ a) × (spell (x % 16) ≡ b)
@@ -31,28 +34,42 @@ decoded_spelled (a ∷ b ∷ text) (x ∷ xs) e =
 -- the bytes of a call
 abbrev call_bytes : Told → List ℕ
 call_bytes (make root kind n rows) = 1 ∷ root ∷ kind ∷ n / 256 ∷ n % 256 ∷ rows
+call_bytes (assemble root f rs) =
+    let p = f.parameter in
+    2 ∷ root ∷ f.encoding ∷ f.kind ∷ f.len / 256 ∷ f.len % 256 ∷ p / 256 / 256 / 256 ∷ p / 256 / 256 % 256 ∷ p / 256 % 256 ∷ p % 256 ∷ f.arity ∷ rs
 call_bytes (share to from) = 3 ∷ to ∷ from ∷ []
 call_bytes (release root) = 4 ∷ root ∷ []
 call_bytes (read root) = 9 ∷ root ∷ []
 
--- bytes with its header, and where its rows are looked at its bytes
+-- bytes with its header, and where its rows and roots are looked at its bytes
 abbrev From : Kinds → Told → List ℕ → Type 0
-From ks c bs = (take 5 bs ≡ take 5 (call_bytes c)) × ((bs ≡ call_bytes c) ⊎ (unchecked ks c ≡ true))
+From ks c bs = (take (header c) bs ≡ take (header c) (call_bytes c)) × ((bs ≡ call_bytes c) ⊎ (unchecked ks c ≡ true))
 
-made_from : (ks : Kinds) (root kind l1 l0 : ℕ) (rest : List ℕ) (t : Bool) → in_range ks kind (two l1 l0) ≡ t → l0 < 256 → From ks (make root kind (two l1 l0) (rows_of ks kind (two l1 l0) rest)) (1 ∷ root ∷ kind ∷ l1 ∷ l0 ∷ rest)
-made_from ks root kind l1 l0 rest true e h = (grind arith, inl (grind arith))
-made_from ks root kind l1 l0 rest false e h = (grind arith, inr (grind arith))
+-- the bytes that a making comes from, and those that an array with children comes from
+made_from : (ks : Kinds) (bs : List ℕ) (c : Told) → Bytes bs → make_of ks bs ≡ Some c → From ks c (1 ∷ bs)
+made_from ks bs c h e =
+    let long : 4 ≤ length bs = grind (arith, nat_tests) in
+    let opened : bs ≡ slice_index bs 0 ∷ slice_index bs 1 ∷ slice_index bs 2 ∷ slice_index bs 3 ∷ drop 4 bs = grind (arith, common_steps, drop_more) in
+    (grind (arith, nat_tests, h 3), grind (arith, nat_tests, h 3))
+
+assembled_from : (ks : Kinds) (bs : List ℕ) (c : Told) → Bytes bs → assemble_of bs ≡ Some c → From ks c (2 ∷ bs)
+assembled_from ks bs c h e =
+    let long : 10 ≤ length bs = grind (arith, nat_tests) in
+    let opened : bs ≡ slice_index bs 0 ∷ slice_index bs 1 ∷ slice_index bs 2 ∷ slice_index bs 3 ∷ slice_index bs 4 ∷ slice_index bs 5 ∷ slice_index bs 6 ∷ slice_index bs 7 ∷ slice_index bs 8 ∷ slice_index bs 9 ∷ drop 10 bs = grind (arith, common_steps, drop_more) in
+    (grind (arith, nat_tests, h 4, h 6, h 7, h 8), grind (arith, nat_tests, h 4, h 6, h 7, h 8))
+
+-- bytes that stand for a call are those of a making, those of an array with children, or just the call's own
+parsed_ways : (ks : Kinds) (k : ℕ) (bs : List ℕ) (c : Told) → body_of ks k bs ≡ Some c → ((k ≡ 1) × (make_of ks bs ≡ Some c)) ⊎ (((k ≡ 2) × (assemble_of bs ≡ Some c)) ⊎ (k ∷ bs ≡ call_bytes c))
+parsed_ways ks k bs c e = grind (arith, nat_tests, common_steps, drop_more)
 
 parsed_from : (ks : Kinds) (bs : List ℕ) (c : Told) → Bytes bs → parsed ks bs ≡ Some c → From ks c bs
 parsed_from ks [] c h e = cc
-parsed_from ks (k ∷ []) c h e = grind (arith, nat_tests)
-parsed_from ks (k ∷ a ∷ []) c h e = (grind (arith, nat_tests), inl (grind (arith, nat_tests)))
-parsed_from ks (k ∷ a ∷ b ∷ []) c h e = (grind (arith, nat_tests), inl (grind (arith, nat_tests)))
-parsed_from ks (k ∷ a ∷ b ∷ d ∷ []) c h e = grind (arith, nat_tests)
-parsed_from ks (k ∷ a ∷ b ∷ l1 ∷ l0 ∷ rest) c h e =
-    let k1 : k ≡ 1 = grind (arith, nat_tests) in
-    let v : make a b (two l1 l0) (rows_of ks b (two l1 l0) rest) ≡ c = grind (arith, nat_tests) in
-    rw (k1, ← v) (made_from ks a b l1 l0 rest (in_range ks b (two l1 l0)) refl (h 4))
+parsed_from ks (k ∷ bs) c h e =
+    elim (parsed_ways ks k bs c e) [
+      | inl w ↦ rw w.0 (made_from ks bs c (λ i. h (suc i)) w.1)
+      | inr (inl w) ↦ rw w.0 (assembled_from ks bs c (λ i. h (suc i)) w.1)
+      | inr (inr same) ↦ rw same (refl, inl refl)
+    ]
 
 -- a text that asks something decodes to bytes that stand for it
 asked_from : (ks : Kinds) (text : List ℕ) (c : Told) (o : Option (List ℕ)) → decoded text ≡ o → asked ks text ≡ Some c → (bs : List ℕ) × (spelled bs ≡ text) × From ks c bs
@@ -62,19 +79,20 @@ asked_from ks text c (Some bs) d e =
     let p : parsed ks bs ≡ Some c = grind (arith, nat_tests) in
     (bs, s.0, parsed_from ks bs c s.1 p)
 
-take_spelled : (xs : List ℕ) → take 10 (spelled xs) ≡ spelled (take 5 xs)
-take_spelled [] = refl
-take_spelled (a ∷ []) = refl
-take_spelled (a ∷ b ∷ []) = refl
-take_spelled (a ∷ b ∷ d ∷ []) = refl
-take_spelled (a ∷ b ∷ d ∷ e ∷ []) = refl
-take_spelled (a ∷ b ∷ d ∷ e ∷ f ∷ rest) = refl
+-- the digits of the first bytes
+take_spelled : (n : ℕ) (xs : List ℕ) → take (2 * n) (spelled xs) ≡ spelled (take n xs)
+take_spelled zero xs = refl
+take_spelled (suc n) [] = take-nil (2 * suc n)
+take_spelled (suc n) (x ∷ xs) =
+    let more : 2 * suc n ≡ suc (suc (2 * n)) = omega arith in
+    rw more cc (take_spelled n xs)
 
 pub from_one_text : (ks : Kinds) → FromOneText ks
 from_one_text ks a b c ea eb =
     let p = asked_from ks a c (decoded a) refl ea in
     let q = asked_from ks b c (decoded b) refl eb in
-    let same : take 10 a ≡ take 10 b = cc (take_spelled p.0, take_spelled q.0, p.1, q.1, p.2.0, q.2.0) in
+    let n = header c in
+    let same : take (2 * n) a ≡ take (2 * n) b = cc (take_spelled n p.0, take_spelled n q.0, p.1, q.1, p.2.0, q.2.0) in
     elim p.2.1 [
       | inl x ↦ elim q.2.1 [ inl y ↦ inl cc | inr u ↦ inr (u, same) ]
       | inr u ↦ inr (u, same)

@@ -6,7 +6,7 @@ use Rattle.rows.specs.Kind.{Kinds}
 use Rattle.pool.specs.declared.node.PoolFault.{PoolFault}
 use Rattle.pool.specs.declared.node.PoolFault.TheVariants.{Height, Nodes, Words}
 use Rattle.planner.specs.declared.call.Refusal.{Refusal}
-use Rattle.planner.specs.declared.call.Refusal.TheVariants.{Line, RootRange, RootEmpty, RootTaken, Field, Pool, NotFlat}
+use Rattle.planner.specs.declared.call.Refusal.TheVariants.{Line, RootRange, RootEmpty, RootTaken, Field, Slots, Pool, NotFlat}
 use Rattle.planner.specs.Calls.{Said, done, rows, refused}
 use Rattle.lines.specs.Text.{spelled}
 
@@ -22,6 +22,7 @@ number RootRange = 2
 number RootEmpty = 3
 number RootTaken = 4
 number Field = 5
+number Slots = 6
 number (Pool fault) = pool_number fault
 number NotFlat = 15
 
@@ -32,6 +33,7 @@ layer RootRange = 0
 layer RootEmpty = 0
 layer RootTaken = 0
 layer Field = 0
+layer Slots = 0
 layer (Pool fault) = 1
 layer NotFlat = 0
 

@@ -1,10 +1,12 @@
 ghost use Rattle.std.specs.Prelude.{◌≡◌, ℕ, ◌+◌, List, take};
 ghost use Rattle.std.specs.Option.{option_map};
+ghost use Rattle.planner.specs.Called.{child_roots};
 ghost use Rattle.planner.specs.Calls as calls;
 ghost use Rattle.lines.specs.Parse as parses;
 
 use crate::text::decode;
-use planner::call::{Call, RowBytes};
+use encodings::fields::Fields;
+use planner::call::{Call, Parts, RowBytes};
 use rows::kinds::RowKinds;
 use rows::row::MAX_ROWS;
 
@@ -21,6 +23,21 @@ fn rows_in_range<'a, K: RowKinds>(kinds: &K, rows: RowBytes<'a>) -> RowBytes<'a>
     }
 }
 
+// The parts of an array, with no roots where it has more slots than a node has room for.
+fn roots_in_room<'a>(parts: Parts<'a>) -> Parts<'a>
+    ensures fields { result.fields ≡ parts.entry.fields }
+    ensures roots { result.roots.now ≡ child_roots parts.entry.fields parts.entry.roots.now }
+{
+    if parts.has_room() {
+        parts
+    } else {
+        Parts {
+            roots: &[],
+            ..parts
+        }
+    }
+}
+
 // The call that bytes stand for, if any: its code, then its fields, then the rest. The codes of calls stand here alone.
 #[tactic(auto, using(crate::proofs::Alone::from_one_text))]
 pub fn parse<'a, K: RowKinds>(kinds: &K, bytes: &'a [u8]) -> Option<Call<'a>>
@@ -32,6 +49,30 @@ pub fn parse<'a, K: RowKinds>(kinds: &K, bytes: &'a [u8]) -> Option<Call<'a>>
             let len = u16::from_be_bytes([l1, l0]);
             let rows = rows_in_range(kinds, RowBytes { kind, len, bytes });
             Some(Call::Make { root, rows })
+        }
+        &[
+            0x02,
+            root,
+            encoding,
+            kind,
+            l1,
+            l0,
+            p3,
+            p2,
+            p1,
+            p0,
+            arity,
+            ref roots @ ..,
+        ] => {
+            let fields = Fields {
+                encoding,
+                kind,
+                len: u16::from_be_bytes([l1, l0]),
+                parameter: u32::from_be_bytes([p3, p2, p1, p0]),
+                arity,
+            };
+            let parts = roots_in_room(Parts { fields, roots });
+            Some(Call::Assemble { root, parts })
         }
         &[0x03, to, from] => Some(Call::Share { to, from }),
         &[0x04, root] => Some(Call::Release { root }),

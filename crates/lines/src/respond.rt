@@ -3,7 +3,7 @@ ghost use Rattle.lines.specs.Respond.{Responds};
 
 use crate::parse::read_line;
 use crate::write::write_answer;
-use encodings::encoding::Encoding;
+use encodings::encoding::EncodingSet;
 use encodings::matcher::Matcher;
 use optimizer::Bank;
 use planner::call::Refusal;
@@ -13,7 +13,7 @@ use std::alloc::AllocError;
 
 // Answers one line of digits: the planner is given the call that it stands for, and the digits of the answer are
 // written in place of what `out` held. The line is decoded in place.
-pub fn respond<K: RowKinds, E: Encoding, B: Bank, M: Matcher>(
+pub fn respond<K: RowKinds, E: EncodingSet, B: Bank, M: Matcher>(
     planner: &mut Planner<'_, K, E, B, M>,
     line: &mut [u8],
     out: &mut Vec<u8>,

@@ -24,6 +24,7 @@ pub fn number(refusal: Refusal) -> u8
         Refusal::RootEmpty => 3,
         Refusal::RootTaken => 4,
         Refusal::Field => 5,
+        Refusal::Slots => 6,
         Refusal::Pool(PoolFault::Height) => 7,
         Refusal::Pool(PoolFault::Nodes) => 8,
         Refusal::Pool(PoolFault::Words) => 9,

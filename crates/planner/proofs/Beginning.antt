@@ -9,7 +9,7 @@ use Rattle.pool.specs.Counts.{names, named}
 use Rattle.pool.specs.Order.{Ordered}
 use Rattle.encodings.specs.Meaning.{Encodings}
 use Rattle.planner.specs.Called.{new_state}
-use Rattle.planner.proofs.Steps.{Good}
+use Rattle.planner.proofs.Good.{Good}
 
 -- an empty root wherever one looks
 pub none_at : {X : Type 0} (n r : ℕ) → get_or {A = Option X} (replicate n None) r None ≡ None

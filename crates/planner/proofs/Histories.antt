@@ -1,21 +1,25 @@
 -- The law holds of every history.
 use Rattle.std.proofs.Common.{◌≡◌, ℕ, ◌<◌, Bool, true, false, List, [], ◌∷◌, length, get_or, set, Some, None, Option, sym, refl, ap, ◌∙◌, subst, ⊎_elim, arith}
-use Rattle.std.proofs.lemmas.List.{get_or-set_same, get_or-set_other, length-set, length-replicate}
-use Rattle.std.proofs.lemmas.Bool.{cases_eq, eqb-false}
+use Rattle.std.proofs.lemmas.List.{get_or-set_same, get_or-set_other, get_or_past, length-set, length-replicate}
+use Rattle.std.proofs.lemmas.Option.{none-some}
+use Rattle.std.proofs.lemmas.Bool.{cases_eq, cases_lt, eqb-false}
 use Rattle.rows.specs.declared.row.Row.{Row}
 use Rattle.rows.specs.Kind.{Kinds}
 use Rattle.rows.specs.Ours.{LawfulKinds}
 use Rattle.pool.specs.Memory.{Memory}
 use Rattle.pool.specs.Counts.{names}
-use Rattle.encodings.specs.Meaning.{Encodings, LawfulEncodings}
-use Rattle.encodings.specs.Rows.{rows_of}
+use Rattle.encodings.specs.Meaning.{Encodings, LawfulSet, present}
+use Rattle.encodings.specs.declared.fields.Fields.{Fields}
+use Rattle.encodings.specs.Rows.{gathered, given, rows_of, Carries}
 use Rattle.encodings.proofs.Keeping.{rows_kept}
-use Rattle.planner.specs.Calls.{Told, make, share, release, read, Said, done, rows, refused}
+use Rattle.planner.specs.Calls.{Told, make, assemble, share, release, read, Said, done, rows, refused}
 use Rattle.planner.specs.Called.{State, new_state, root_at, parsed_rows, called}
-use Rattle.planner.specs.Law.{Moment, History, state_after, Answered, Reached, accepted, Entry, entered, ledger, rows_under, Entered, renews, renewed, Found, own_root, Spares, Others, Whole, Law, Extends}
+use Rattle.planner.specs.Law.{Moment, History, state_after, Answered, Reached, accepted, Entry, rows_entered, entered, ledger, rows_under, rows_under_each, Entered, renews, renewed, Found, own_root, Spares, Others, Whole, Law, Extends}
 use Rattle.pool.proofs.Counted.{heights_falling}
 use Rattle.pool.proofs.Reached.{counts_exact}
-use Rattle.planner.proofs.Steps.{Good, Step, call_step}
+use Rattle.planner.proofs.Good.{Good, Step}
+use Rattle.planner.proofs.Steps.{call_step}
+use Rattle.planner.proofs.Gathering.{gathered_carries}
 use Rattle.planner.proofs.Beginning.{none_at, new_good}
 
 module _ (ks : Kinds) (es : Encodings) where
@@ -37,9 +41,20 @@ module _ (ks : Kinds) (es : Encodings) where
   entered_kept s t r (Some None) p q h = (h.0, p ∙ h.1)
   entered_kept s t r (Some (Some xs)) p q h = ((h.0.0, p ∙ h.0.1), q ∙ h.1)
 
-  entered_new : (t : State) (r k : ℕ) (e : Entry) → root_at t r ≡ Some k → rows_under ks es t r ≡ e → Entered ks es t r (Some e)
+  entered_new : (t : State) (r k : ℕ) (e : Entry) → root_at t r ≡ Some k → Carries e (rows_under ks es t r) → Entered ks es t r (Some e)
   entered_new t r k None p q = (k, p)
-  entered_new t r k (Some xs) p q = ((k, p), q)
+  entered_new t r k (Some xs) p q = ((k, p), q xs refl)
+
+  -- rows that are entered for a root are under it
+  entered_rows : (s : State) (r : ℕ) (e : Option Entry) → Entered ks es s r e → Carries (elim e as (λ _. Option (List Row)) [ None ↦ None | Some x ↦ x ]) (rows_under ks es s r)
+  entered_rows s r None h xs e = absurd (none-some xs e)
+  entered_rows s r (Some None) h xs e = absurd (none-some xs e)
+  entered_rows s r (Some (Some ys)) h xs e = h.1 ∙ e
+
+  -- where the children's rows are there, so are those that they give
+  given_carries : (f : Fields) (o p : Option (List (List Row))) → ((l : List (List Row)) → o ≡ Some l → p ≡ Some l) → Carries (given es f o) (given es f p)
+  given_carries f None p c xs e = absurd (none-some xs e)
+  given_carries f (Some l) p c xs e = ap (given es f) (c l refl) ∙ e
 
   -- what is entered for a root that is shared from is true of the root that it is shared to
   entered_shared : (s t : State) (to from k : ℕ) (e : Option Entry) → root_at t to ≡ Some k → root_at s from ≡ Some k → rows_under ks es t to ≡ rows_under ks es s from → Entered ks es s from e → Entered ks es t to e
@@ -66,14 +81,32 @@ module _ (ks : Kinds) (es : Encodings) where
     entry_same : t ≡ s → (r : ℕ) → r < 32 → Entered ks es t r (get_or l r None)
     entry_same e r h = subst (λ (x : State). Entered ks es x r (get_or l r None)) (sym e) (old r h)
 
-    next_entered : (c : Told) (a : Said) → Step ks es s c a t → (r : ℕ) → r < 32 → Entered ks es t r (get_or (elim (accepted a) as (λ b. List (Option Entry)) [ true ↦ entered ks l c | false ↦ l ]) r None)
+    -- what the ledger has for a root is there
+    rows_there : (r : ℕ) → Carries (rows_entered l r) (rows_under ks es s r)
+    rows_there r xs e =
+        ⊎_elim
+        (λ (low : r < 32). entered_rows s r (get_or l r None) (old r low) xs e)
+        (λ high. absurd (none-some xs (sym (ap (λ (o : Option Entry). elim o as (λ _. Option (List Row)) [ None ↦ None | Some x ↦ x ]) (get_or_past l r None (omega (arith, long)))) ∙ e)))
+        (cases_lt r 32)
+
+    next_entered : (c : Told) (a : Said) → Step ks es s c a t → (r : ℕ) → r < 32 → Entered ks es t r (get_or (elim (accepted a) as (λ b. List (Option Entry)) [ true ↦ entered ks es l c | false ↦ l ]) r None)
     next_entered (make root kind n bytes) done st r h =
         ⊎_elim
-        (λ e. entry_own root (Some (parsed_rows (ks.kind kind) n bytes)) r st.effect.0 e (entered_new t root st.effect.1.0 (parsed_rows (ks.kind kind) n bytes) st.effect.1.1 st.makes))
+        (λ e. entry_own root (Some (parsed_rows (ks.kind kind) n bytes)) r st.effect.0 e (entered_new t root st.effect.1.0 (parsed_rows (ks.kind kind) n bytes) st.effect.1.1 (λ xs e. st.makes ∙ e)))
         (λ ne. entry_other (make root kind n bytes) root (Some (parsed_rows (ks.kind kind) n bytes)) refl st.others r h ne)
         (cases_eq r root)
     next_entered (make root kind n bytes) (rows a b c d) st r h = absurd st.effect
     next_entered (make root kind n bytes) (refused e) st r h = entry_same st.effect r h
+    next_entered (assemble root f rs) done st r h =
+        let entry : Entry = given es f (gathered (rows_entered l) (present rs)) in
+        ⊎_elim
+        (λ e. entry_own root (Some entry) r st.effect.0 e
+        (entered_new t root st.effect.1.0 entry st.effect.1.1
+        (λ xs is. st.makes ∙ given_carries f (gathered (rows_entered l) (present rs)) (rows_under_each ks es s rs) (gathered_carries (rows_entered l) (rows_under ks es s) rows_there rs) xs is)))
+        (λ ne. entry_other (assemble root f rs) root (Some entry) refl st.others r h ne)
+        (cases_eq r root)
+    next_entered (assemble root f rs) (rows a b c d) st r h = absurd st.effect
+    next_entered (assemble root f rs) (refused e) st r h = entry_same st.effect r h
     next_entered (share to from) done st r h =
         ⊎_elim
         (λ e. entry_own to (get_or l from None) r st.effect.0 e
@@ -93,20 +126,21 @@ module _ (ks : Kinds) (es : Encodings) where
     next_entered (read root) (rows a b c d) st r h = entry_same st.effect r h
     next_entered (read root) (refused e) st r h = entry_same st.effect r h
 
-  entered_long : (l : List (Option Entry)) (c : Told) → length l ≡ 32 → length (entered ks l c) ≡ 32
+  entered_long : (l : List (Option Entry)) (c : Told) → length l ≡ 32 → length (entered ks es l c) ≡ 32
   entered_long l (make root kind n bytes) e = length-set l root (Some (parsed_rows (ks.kind kind) n bytes)) ∙ e
+  entered_long l (assemble root f rs) e = length-set l root (Some (given es f (gathered (rows_entered l) (present rs)))) ∙ e
   entered_long l (share to from) e = length-set l to (get_or l from None) ∙ e
   entered_long l (release root) e = length-set l root None ∙ e
   entered_long l (read root) e = e
 
   -- fed or not, the ledger stays as long
-  fed_long : (l : List (Option Entry)) (c : Told) (b : Bool) → length l ≡ 32 → length (elim b as (λ v. List (Option Entry)) [ true ↦ entered ks l c | false ↦ l ]) ≡ 32
+  fed_long : (l : List (Option Entry)) (c : Told) (b : Bool) → length l ≡ 32 → length (elim b as (λ v. List (Option Entry)) [ true ↦ entered ks es l c | false ↦ l ]) ≡ 32
   fed_long l c true e = entered_long l c e
   fed_long l c false e = e
 
-  ledger_long : (h : History) → length (ledger ks h) ≡ 32
+  ledger_long : (h : History) → length (ledger ks es h) ≡ 32
   ledger_long [] = length-replicate {A = Option Entry} 32 None
-  ledger_long (m ∷ h) = fed_long (ledger ks h) m.call (accepted m.answer) (ledger_long h)
+  ledger_long (m ∷ h) = fed_long (ledger ks es h) m.call (accepted m.answer) (ledger_long h)
 
   -- ---- what is found
   -- what a call that puts nothing under r leaves there, if anything, was there before
@@ -127,6 +161,9 @@ module _ (ks : Kinds) (es : Encodings) where
     stays (make root kind n bytes) done st kept = stays_other (make root kind n bytes) st.others (λ e. eqb-false root r kept (sym e))
     stays (make root kind n bytes) (rows a b c d) st kept = absurd st.effect
     stays (make root kind n bytes) (refused e) st kept = stays_same st.effect
+    stays (assemble root f rs) done st kept = stays_other (assemble root f rs) st.others (λ e. eqb-false root r kept (sym e))
+    stays (assemble root f rs) (rows a b c d) st kept = absurd st.effect
+    stays (assemble root f rs) (refused e) st kept = stays_same st.effect
     stays (share to from) done st kept = stays_other (share to from) st.others (λ e. eqb-false to r kept (sym e))
     stays (share to from) (rows a b c d) st kept = absurd st.effect
     stays (share to from) (refused e) st kept = stays_same st.effect
@@ -149,11 +186,11 @@ module _ (ks : Kinds) (es : Encodings) where
           let p = stays (state_after h) m.after r k held m.call m.answer st e in
           subst (λ (o : Option (List Row)). Found ks es r h o) (sym p.1) (old r k (p.0 ∙ held))
 
-module _ (ks : Kinds) (lawful : LawfulKinds ks) (es : Encodings) (means : LawfulEncodings ks es) where
+module _ (ks : Kinds) (lawful : LawfulKinds ks) (es : Encodings) (means : LawfulSet ks es) where
   whole_of : (s : State) → Good ks es s → Whole ks es s
   whole_of s g = record { each = g.whole; heights = g.ordered.heights; low = g.ordered.low; within = g.ordered.within; apart = g.ordered.apart }
 
-  pub history_law : (h : History) → Answered ks h → Good ks es (state_after h) × Law ks es h
+  pub history_law : (h : History) → Answered ks es h → Good ks es (state_after h) × Law ks es h
   history_law [] answered =
       let g = new_good ks es in
       let falling = heights_falling new_state.memory.nodes (names new_state.roots) g.ordered.counts g.ordered.heights in (
@@ -183,7 +220,7 @@ module _ (ks : Kinds) (lawful : LawfulKinds ks) (es : Encodings) (means : Lawful
         g,
         record {
           answered = answered;
-          entries = next_entered ks es s m.after (ledger ks h) (ledger_long ks es h) old.entries m.call m.answer st;
+          entries = next_entered ks es s m.after (ledger ks es h) (ledger_long ks es h) old.entries m.call m.answer st;
           found = next_found ks es m h st old.found;
           made = (st.makes, old.made);
           shared = (st.shares, old.shared);
@@ -197,9 +234,9 @@ module _ (ks : Kinds) (lawful : LawfulKinds ks) (es : Encodings) (means : Lawful
       )
 
   -- one call more
-  pub extended : (h : History) (s t : State) (c : Told) (a : Said) → Reached ks h s → (a, t) ≡ called ks s c → Extends ks es h c a t
+  pub extended : (h : History) (s t : State) (c : Told) (a : Said) → Reached ks es h s → (a, t) ≡ called ks es s c → Extends ks es h c a t
   extended h s t c a r e =
-      let p : (a, t) ≡ called ks (state_after h) c = e ∙ ap (λ (x : State). called ks x c) (sym r.here) in
+      let p : (a, t) ≡ called ks es (state_after h) c = e ∙ ap (λ (x : State). called ks es x c) (sym r.here) in
       record {
         reached = record { answered = (p, r.answered); here = refl };
         law = (history_law (record { call = c; answer = a; after = t } ∷ h) (p, r.answered)).1;

@@ -2,8 +2,6 @@
 use Rattle.std.proofs.Common.{◌≡◌, ℕ, zero, suc, ◌<◌, eqb, List, [], ◌∷◌, length, get_or, set, Some, None, Option, sym, ap, arith}
 use Rattle.std.proofs.lemmas.Bool.{eq-eqb, ne_eqb, cond-true, cond-false}
 use Rattle.pool.specs.Counts.{name, names, times}
-use Rattle.pool.specs.Memory.{Memory}
-use Rattle.pool.specs.Order.{Ordered}
 use Rattle.pool.proofs.Slotting.{names_set}
 
 -- what a root names is held
@@ -25,23 +23,6 @@ pub names_emptied : (x k : ℕ) (ss : List (Option ℕ)) (j : ℕ) → j < lengt
 names_emptied x k ss j h e =
     let z : times x (name (get_or ss j None)) ≡ times x (k ∷ []) = ap (λ (o : Option ℕ). times x (name o)) e in
     omega (arith, names_set x ss j None h)
-
--- the order of the holders does not matter
-pub ordered_like : (m : Memory) (hs gs : List ℕ) → ((k : ℕ) → times k hs ≡ times k gs) → Ordered m hs → Ordered m gs
-ordered_like m hs gs e o =
-    record {
-      nodes_long = o.nodes_long;
-      words_long = o.words_long;
-      counts = λ k. omega (arith, o.counts k, e k);
-      heights = o.heights;
-      low = o.low;
-      eight = o.eight;
-      within = o.within;
-      apart = o.apart;
-      slotless = o.slotless;
-      freed = o.freed;
-      cleared = o.cleared;
-    }
 
 -- a holder other than the first is one of the rest
 pub held_other : (a i : ℕ) (hs : List ℕ) → (a ≡ i → ⊥) → 0 < times a (i ∷ hs) → 0 < times a hs

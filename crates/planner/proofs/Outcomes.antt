@@ -7,22 +7,24 @@ use Rattle.rows.specs.Ours.{LawfulKinds}
 use Rattle.pool.specs.Memory.{Memory, node_at, start_at, run_of}
 use Rattle.pool.specs.Sharing as sharing
 use Rattle.pool.specs.Building.{built}
-use Rattle.encodings.specs.Meaning.{Encodings, LawfulEncodings}
+use Rattle.pool.specs.Inserting.{inserted}
+use Rattle.encodings.specs.declared.fields.Fields.{Fields}
+use Rattle.encodings.specs.Meaning.{Encodings, LawfulSet}
 use Rattle.planner.specs.declared.call.Refusal.{Refusal}
 use Rattle.planner.specs.declared.call.Refusal.TheVariants.{Line, RootRange, RootEmpty, RootTaken, Field, NotFlat}
 use Rattle.planner.specs.Calls.{Told, Said, done, rows, refused}
-use Rattle.planner.specs.Called.{State, root_at, root_in, held_in, with_root, sized, rows_made, placed, made, shared, emptied, handed, read_out, called}
+use Rattle.planner.specs.Called.{State, root_at, root_in, held_in, with_root, sized, rows_made, placed, made, node_of, shared, emptied, handed, read_out, called}
 use Rattle.planner.specs.declared.planner.Planner.{Planner}
 use Rattle.planner.specs.Contract.{Does}
-use Rattle.planner.specs.Seen.{state_of, Answers}
+use Rattle.planner.specs.Seen.{state_of, called_on, Answers}
 use Rattle.planner.proofs.Histories.{extended}
 
 -- a call that answers by its definition does all that it promises
-pub does : (ks : Kinds) (es : Encodings) → LawfulKinds ks → LawfulEncodings ks es → (s t : State) (c : Told) (a : Said) → (a, t) ≡ called ks s c → Does ks es s c a t
+pub does : (ks : Kinds) (es : Encodings) → LawfulKinds ks → LawfulSet ks es → (s t : State) (c : Told) (a : Said) → (a, t) ≡ called ks es s c → Does ks es s c a t
 does ks es lawful means s t c a e = record { value = e; law = λ h r. extended ks lawful es means h s t c a r e }
 
 -- the same, of a planner that keeps its session
-pub answered : {K E B M : Type 0} {kinds_of : K → Kinds} {means_of : E → Kinds → Encodings} → ((k : K) → LawfulKinds (kinds_of k)) → ((e : E) (ks : Kinds) → LawfulEncodings ks (means_of e ks)) → {p q : Planner K E B M} {c : Told} {a : Said} → (a, state_of q) ≡ called (kinds_of p.session.kinds) (state_of p) c → q.session ≡ p.session → Answers kinds_of means_of p q c a
+pub answered : {K E B M : Type 0} {kinds_of : K → Kinds} {means_of : E → Kinds → Encodings} → ((k : K) → LawfulKinds (kinds_of k)) → ((e : E) (ks : Kinds) → LawfulSet ks (means_of e ks)) → {p q : Planner K E B M} {c : Told} {a : Said} → (a, state_of q) ≡ called_on kinds_of means_of p c → q.session ≡ p.session → Answers kinds_of means_of p q c a
 answered kinds encodings {p} {q} e same = record { does = does _ _ (kinds p.session.kinds) (encodings p.session.encodings _) (state_of p) (state_of q) _ _ e; session = same }
 
 -- ---- what is under a root, by: whether the root exists, what is under it
@@ -46,6 +48,14 @@ held_ok s r k e = by (ltb r 32) (root_at s r) refl refl e
     by true (Some j) is held e = let z : k ≡ j = cc in (ltb-true r 32 is, held ∙ ap (λ (x : ℕ). Some x) (sym z))
     by true None is held e = let z : ◌≡◌ {A = ℕ} 0 1 = cc in absurd (omega arith)
     by false o is held e = let z : ◌≡◌ {A = ℕ} 0 1 = cc in absurd (omega arith)
+
+-- a root that exists is refused only where it is empty
+pub held_err : (s : State) (r : ℕ) (x : Refusal) → ltb r 32 ≡ true → Err x ≡ held_in s r → (x ≡ RootEmpty) × (root_at s r ≡ None)
+held_err s r x low e = by (root_at s r) refl (e ∙ ap (λ (b : Bool). held_by b (root_at s r)) low)
+  where
+    by : (o : Option ℕ) → root_at s r ≡ o → Err x ≡ held_by true o → (x ≡ RootEmpty) × (root_at s r ≡ None)
+    by None is e = (cc, is)
+    by (Some k) is e = let z : ◌≡◌ {A = ℕ} 0 1 = cc in absurd (omega arith)
 
 -- what is done with the array under a root, and what is refused
 abbrev for_held : {X : Type 0} → (Refusal → X) → (ℕ → X) → Result ℕ Refusal → X
@@ -154,6 +164,10 @@ made_is ks s root kind n bytes size target rs a b c =
     ∙ ap (λ (x : Result (Option ℕ) Refusal). make_by ks s root kind n (sized ks kind n bytes) x (rows_made ks kind n bytes)) b
     ∙ make_for ks s root kind n (sized ks kind n bytes) (ltb root 32) (root_at s root) (rows_made ks kind n bytes)
 
+-- ---- an array of given fields, by: its slots
+abbrev pub assemble_by : State → ℕ → Fields → Result (List (Option ℕ)) Refusal → Said × State
+assemble_by s root f slots = elim slots [ Err e ↦ (refused e, s) | Ok ss ↦ placed s root (inserted s.memory (node_of f ss)) ]
+
 -- a root that is taken refuses, whatever it holds
 pub taken_by : {X : Type 0} (x : X) (y : X) (o : Option ℕ) → is_some o ≡ true → x ≡ elim o [ Some k ↦ x | None ↦ y ]
 taken_by x y None e = let z : ◌≡◌ {A = ℕ} 0 1 = cc in absurd (omega arith)
@@ -166,12 +180,16 @@ empty_by (Some k) e = let z : ◌≡◌ {A = ℕ} 0 1 = cc in absurd (omega arit
 
 module _ (ks : Kinds) (es : Encodings) (s : State) (c : Told) (a : Said) (t : State) (d : Does ks es s c a t) where
   -- the answer and the state of a call that did what it promises
-  pub answer_is : a ≡ (called ks s c).0
+  pub answer_is : a ≡ (called ks es s c).0
   answer_is = ap (λ (p : Said × State). p.0) d.value
 
-  pub state_is : t ≡ (called ks s c).1
+  pub state_is : t ≡ (called ks es s c).1
   state_is = ap (λ (p : Said × State). p.1) d.value
 
   -- the same promise, with the answer by its definition
-  pub does_called : Does ks es s c (called ks s c).0 t
+  pub does_called : Does ks es s c (called ks es s c).0 t
   does_called = subst (λ (x : Said). Does ks es s c x t) answer_is d
+
+-- and of a planner
+pub answers_called : {K E B M : Type 0} {kinds_of : K → Kinds} {means_of : E → Kinds → Encodings} {p q : Planner K E B M} {c : Told} {a : Said} → Answers kinds_of means_of p q c a → Answers kinds_of means_of p q c (called_on kinds_of means_of p c).0
+answers_called x = record { does = does_called _ _ _ _ _ _ x.does; session = x.session }

@@ -1,31 +1,23 @@
 -- The rows that bytes stand for are as many as were asked for, and rows that their kind takes.
-use Rattle.std.proofs.Common.{◌≡◌, ℕ, zero, suc, ◌+◌, ◌*◌, ◌<◌, Bool, true, ◌&&◌, List, [], ◌∷◌, length, get_or, take, drop, is_some, Some, None, Option, unwrap_or, sym, refl, ap, ◌∙◌, subst, add-mul, add_comm, one-mul, zero-mul, add-one, arith}
+use Rattle.std.proofs.Common.{◌≡◌, ℕ, zero, suc, ◌+◌, ◌*◌, ◌<◌, Bool, true, ◌&&◌, List, [], length, get_or, take, drop, is_some, Some, None, Option, unwrap_or, sym, refl, ap, ◌∙◌, subst, add-mul, add_comm, one-mul, zero-mul, add-one, arith}
 use Rattle.std.proofs.lemmas.List.{drop-drop}
 use Rattle.std.specs.List.{range_with_len, list_all}
 use Rattle.rows.specs.declared.row.Row.{Row}
 use Rattle.rows.specs.Kind.{Kind, LawfulKind, Taken}
 use Rattle.planner.specs.Called.{parsed_row, parsed_rows}
+use Rattle.planner.proofs.Gathering.{first_of, first_is}
 
 -- rows that could be parsed
 pub record Rows (kd : Kind) (n : ℕ) (rs : List Row) : Type 0 where
   pub long : length rs ≡ n
   pub taken : Taken kd rs
 
--- what parsing one row more gives
-abbrev more : Option Row → Option (List Row) → Option (List Row)
-more o rest = elim o [ None ↦ None | Some r ↦ elim rest [ None ↦ None | Some rs ↦ Some (r ∷ rs) ] ]
-
-more_some : (o : Option Row) (rest : Option (List Row)) (rs : List Row) → more o rest ≡ Some rs → (r : Row) × (l : List Row) × (o ≡ Some r) × (rest ≡ Some l) × (rs ≡ r ∷ l)
-more_some None rest rs e = let z : ◌≡◌ {A = ℕ} 0 1 = cc in absurd (omega arith)
-more_some (Some r) None rs e = let z : ◌≡◌ {A = ℕ} 0 1 = cc in absurd (omega arith)
-more_some (Some r) (Some l) rs e = let z : rs ≡ r ∷ l = cc in (r, l, refl, refl, z)
-
 pub rows_parsed : (kd : Kind) → LawfulKind kd → (n : ℕ) (bs : List ℕ) (rs : List Row) → parsed_rows kd n bs ≡ Some rs → Rows kd n rs
 rows_parsed kd lawful zero bs rs e =
     let z : rs ≡ [] = cc in
     subst (λ (l : List Row). Rows kd 0 l) (sym z) (record { long = refl; taken = tt })
 rows_parsed kd lawful (suc n) bs rs e =
-    let p = more_some (kd.parsed (take kd.width bs)) (parsed_rows kd n (drop kd.width bs)) rs e in
+    let p = first_is (kd.parsed (take kd.width bs)) (parsed_rows kd n (drop kd.width bs)) rs e in
     let rest = rows_parsed kd lawful n (drop kd.width bs) p.1 p.3 in
     subst (λ (l : List Row). Rows kd (suc n) l) (sym p.4)
     (record { long = ap (λ (x : ℕ). suc x) rest.long; taken = (lawful.parsed_taken (take kd.width bs) p.0 p.2, rest.taken) })
@@ -45,11 +37,11 @@ row_later w k bs =
 pub parsed_at : (kd : Kind) (n : ℕ) (bs : List ℕ) (rs : List Row) (k : ℕ) (d : Row) → k < n → parsed_rows kd n bs ≡ Some rs → kd.parsed (take kd.width (drop (k * kd.width) bs)) ≡ Some (get_or rs k d)
 parsed_at kd zero bs rs k d h e = absurd (omega arith)
 parsed_at kd (suc n) bs rs zero d h e =
-    let p = more_some (kd.parsed (take kd.width bs)) (parsed_rows kd n (drop kd.width bs)) rs e in
+    let p = first_is (kd.parsed (take kd.width bs)) (parsed_rows kd n (drop kd.width bs)) rs e in
     let z : 0 * kd.width ≡ 0 = zero-mul kd.width in
     ap (λ (x : ℕ). kd.parsed (take kd.width (drop x bs))) z ∙ p.2 ∙ ap (λ (l : List Row). Some (get_or l 0 d)) (sym p.4)
 parsed_at kd (suc n) bs rs (suc k) d h e =
-    let p = more_some (kd.parsed (take kd.width bs)) (parsed_rows kd n (drop kd.width bs)) rs e in
+    let p = first_is (kd.parsed (take kd.width bs)) (parsed_rows kd n (drop kd.width bs)) rs e in
     ap (λ (x : List ℕ). kd.parsed (take kd.width x)) (row_later kd.width k bs)
     ∙ parsed_at kd n (drop kd.width bs) p.1 k d (omega arith) p.3 ∙ ap (λ (l : List Row). Some (get_or l (suc k) d)) (sym p.4)
 
@@ -71,7 +63,7 @@ parsed_value kd n bs e = by (parsed_rows kd n bs) e
 pub parsed_long : (kd : Kind) → LawfulKind kd → (n : ℕ) (bs : List ℕ) → is_some (parsed_rows kd n bs) ≡ true → length (unwrap_or (parsed_rows kd n bs) []) ≡ n
 parsed_long kd lawful n bs e = (rows_parsed kd lawful n bs (unwrap_or (parsed_rows kd n bs) []) (parsed_value kd n bs e)).long
 
-more_is : (o : Option Row) (rest : Option (List Row)) → is_some (more o rest) ≡ (is_some o && is_some rest)
+more_is : (o : Option Row) (rest : Option (List Row)) → is_some (first_of o rest) ≡ (is_some o && is_some rest)
 more_is None rest = refl
 more_is (Some r) None = refl
 more_is (Some r) (Some rs) = refl

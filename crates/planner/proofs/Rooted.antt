@@ -1,18 +1,15 @@
 -- What a change of one root leaves in order.
-use Rattle.std.proofs.Common.{◌≡◌, ℕ, ◌<◌, ◌≤◌, List, [], ◌∷◌, length, get_or, set, Some, None, Option, arith}
+use Rattle.std.proofs.Common.{◌≡◌, ℕ, ◌<◌, ◌≤◌, List, ◌∷◌, length, get_or, set, Some, None, Option, arith}
 use Rattle.pool.specs.Memory.{Memory, count_at}
 use Rattle.pool.specs.Counts.{names, Falling, Owed, here}
 use Rattle.pool.specs.Order.{Ordered}
 use Rattle.pool.specs.Sharing.{retained, release}
 use Rattle.pool.proofs.Counted.{heights_falling, held_used, count_bound}
 use Rattle.pool.proofs.Spared.{retained_change}
+use Rattle.pool.proofs.Naming.{names_long}
 use Rattle.pool.proofs.Releasing.{release_change}
-use Rattle.planner.proofs.Holders.{names_at, names_filled, names_emptied, ordered_like}
-
-names_long : (ss : List (Option ℕ)) → length (names ss) ≤ length ss
-names_long [] = omega arith
-names_long (None ∷ ss) = omega (arith, names_long ss)
-names_long (Some c ∷ ss) = omega (arith, names_long ss)
+use Rattle.encodings.proofs.Answering.{ordered_like}
+use Rattle.planner.proofs.Holders.{names_at, names_filled, names_emptied}
 
 module _ (m : Memory) (rs : List (Option ℕ)) (o : Ordered m (names rs)) where
   -- what a root holds is in use

@@ -1,7 +1,8 @@
 -- Calls and answers as values.
 use Rattle.std.specs.Prelude.{ℕ, List, ◌++◌, Ok, Err, Result}
+use Rattle.encodings.specs.declared.fields.Fields.{Fields}
 use Rattle.planner.specs.declared.call.Call.{Call}
-use Rattle.planner.specs.declared.call.Call.TheVariants.{Make, Share, Release, Read}
+use Rattle.planner.specs.declared.call.Call.TheVariants.{Make, Assemble, Share, Release, Read}
 use Rattle.planner.specs.declared.call.Refusal.{Refusal}
 use Rattle.planner.specs.declared.call.Reply.{Reply}
 use Rattle.planner.specs.declared.call.Reply.TheVariants.{Done, Rows}
@@ -9,6 +10,7 @@ use Rattle.planner.specs.declared.call.Reply.TheVariants.{Done, Rows}
 -- a call, with what it borrows in full
 pub data Told : Type 0 where
   make : (root kind n : ℕ) → List ℕ → Told
+  assemble : (root : ℕ) → Fields → List ℕ → Told
   share : (to from : ℕ) → Told
   release : (root : ℕ) → Told
   read : (root : ℕ) → Told
@@ -21,6 +23,7 @@ pub data Said : Type 0 where
 
 abbrev pub told : Call → Told
 told (Make root r) = make root r.kind r.len r.bytes.now
+told (Assemble root p) = assemble root p.fields p.roots.now
 told (Share to from) = share to from
 told (Release root) = release root
 told (Read root) = read root

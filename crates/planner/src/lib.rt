@@ -1,6 +1,7 @@
 #![tactic(auto)]
 
 pub mod answer;
+pub mod assemble;
 pub mod call;
 pub mod listener;
 pub mod make;

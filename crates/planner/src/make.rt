@@ -8,7 +8,7 @@ ghost use Rattle.planner.specs.Seen.{Answers};
 
 use crate::call::{Refusal, RowBytes};
 use crate::planner::Planner;
-use encodings::encoding::Encoding;
+use encodings::encoding::EncodingSet;
 use encodings::matcher::Matcher;
 use optimizer::Bank;
 use pool::builder::Builder;
@@ -71,7 +71,7 @@ impl RowBytes<'_> {
     }
 }
 
-impl<K: RowKinds, E: Encoding, B: Bank, M: Matcher> Planner<'_, K, E, B, M> {
+impl<K: RowKinds, E: EncodingSet, B: Bank, M: Matcher> Planner<'_, K, E, B, M> {
     // Puts a Flat array of the rows that bytes stand for under a root.
     pub fn make(&mut self, root: u8, rows: RowBytes) -> Result<(), Refusal>
         ensures { Answers K.RowKinds.kinds E.Encoding.means self.old self.new (make root rows.entry.kind rows.entry.len rows.entry.bytes.now) (outcome result) }

@@ -3,11 +3,11 @@ ghost use Rattle.pool.specs.Seen.{nodes_used, words_used};
 ghost use Rattle.planner.specs.Calls.{read};
 ghost use Rattle.planner.specs.Contract.{read_outcome, roots_used};
 ghost use Rattle.planner.specs.Law.{History, Reached, Law};
-ghost use Rattle.planner.specs.Seen.{state_of, Answers};
+ghost use Rattle.planner.specs.Seen.{state_of, means_in, Answers};
 
 use crate::call::{Reading, Refusal};
 use crate::planner::Planner;
-use encodings::encoding::Encoding;
+use encodings::encoding::EncodingSet;
 use encodings::matcher::Matcher;
 use optimizer::Bank;
 use pool::node::FLAT;
@@ -21,7 +21,7 @@ pub struct Usage {
     pub words: usize,
 }
 
-impl<K: RowKinds, E: Encoding, B: Bank, M: Matcher> Planner<'_, K, E, B, M> {
+impl<K: RowKinds, E: EncodingSet, B: Bank, M: Matcher> Planner<'_, K, E, B, M> {
     // The run of words of the Flat array under a root, as it lies in the pool.
     pub fn read(&self, root: u8) -> Result<Reading<'_>, Refusal>
         ensures { Answers K.RowKinds.kinds E.Encoding.means self.now self.now (read root) (read_outcome result) }
@@ -45,7 +45,7 @@ impl<K: RowKinds, E: Encoding, B: Bank, M: Matcher> Planner<'_, K, E, B, M> {
         ensures roots { result.roots ≡ roots_used self.now.roots }
         ensures nodes { result.nodes ≡ nodes_used self.now.pool.nodes.now }
         ensures words { result.words ≡ words_used self.now.pool.nodes.now }
-        ensures law { (h : History) → Reached (K.RowKinds.kinds self.now.session.kinds) h (state_of self.now) → Law (K.RowKinds.kinds self.now.session.kinds) (E.Encoding.means self.now.session.encodings (K.RowKinds.kinds self.now.session.kinds)) h }
+        ensures law { (h : History) → Reached (K.RowKinds.kinds self.now.session.kinds) (means_in K.RowKinds.kinds E.Encoding.means self.now.session) h (state_of self.now) → Law (K.RowKinds.kinds self.now.session.kinds) (means_in K.RowKinds.kinds E.Encoding.means self.now.session) h }
     {
         Usage {
             roots: self.roots.iter().filter(|root| root.is_some()).count(),

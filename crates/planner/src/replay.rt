@@ -1,10 +1,9 @@
 ghost use Rattle.std.specs.Prelude.{◌≡◌, [], ◌∷◌, map};
 ghost use Rattle.pool.specs.Seen.{nodes_used, words_used};
-ghost use Rattle.planner.specs.Called.{called};
 ghost use Rattle.planner.specs.Calls.{told, Hears};
-ghost use Rattle.planner.specs.Contract.{Handed, played, answers, roots_used};
+ghost use Rattle.planner.specs.Contract.{Handed, answers, roots_used};
 ghost use Rattle.planner.specs.Law.{Law, state_after};
-ghost use Rattle.planner.specs.Seen.{state_of, Answers};
+ghost use Rattle.planner.specs.Seen.{means_in, called_on, played_in, Answers};
 
 use crate::answer::{answer, read_answer};
 use crate::call::{Answer, Call};
@@ -12,14 +11,14 @@ use crate::listener::Listener;
 use crate::planner::Planner;
 use crate::read::Usage;
 use crate::session::Session;
-use encodings::encoding::Encoding;
+use encodings::encoding::EncodingSet;
 use encodings::matcher::Matcher;
 use optimizer::Bank;
 use pool::node::Node;
 use pool::pool::{NODES, WORDS};
 use rows::kinds::RowKinds;
 
-impl<K: RowKinds, E: Encoding, B: Bank, M: Matcher> Planner<'_, K, E, B, M> {
+impl<K: RowKinds, E: EncodingSet, B: Bank, M: Matcher> Planner<'_, K, E, B, M> {
     // Makes one call, and hands its answer, which may lend words of the pool, to `hand`, with the row kinds and `out`.
     // This is the one place that tells calls apart by what they do.
     pub fn answer_with<S, R, F: FnOnce(&K, Answer, &mut S) -> R>(
@@ -29,11 +28,12 @@ impl<K: RowKinds, E: Encoding, B: Bank, M: Matcher> Planner<'_, K, E, B, M> {
         hand: F,
     ) -> R
         requires { F.IsAlwaysCallable hand }
-        ensures handed { Handed F.FnOnce hand self.old.session.kinds (called (K.RowKinds.kinds self.old.session.kinds) (state_of self.old) (told call.entry)).0 out.old result out.new }
-        ensures answers { Answers K.RowKinds.kinds E.Encoding.means self.old self.new (told call.entry) (called (K.RowKinds.kinds self.old.session.kinds) (state_of self.old) (told call.entry)).0 }
+        ensures handed { Handed F.FnOnce hand self.old.session.kinds (called_on K.RowKinds.kinds E.Encoding.means self.old (told call.entry)).0 out.old result out.new }
+        ensures answers { Answers K.RowKinds.kinds E.Encoding.means self.old self.new (told call.entry) (called_on K.RowKinds.kinds E.Encoding.means self.old (told call.entry)).0 }
     {
         let res = match call {
             Call::Make { root, rows } => self.make(root, rows),
+            Call::Assemble { root, parts } => self.assemble(root, parts),
             Call::Share { to, from } => self.share(to, from),
             Call::Release { root } => self.release(root),
             Call::Read { root } => {
@@ -45,8 +45,8 @@ impl<K: RowKinds, E: Encoding, B: Bank, M: Matcher> Planner<'_, K, E, B, M> {
 
     // One call, and its answer handed to a listener.
     pub fn serve<L: Listener>(&mut self, call: Call, listener: &mut L)
-        ensures heard { Hears L.Listener.hears listener.old listener.new ((called (K.RowKinds.kinds self.old.session.kinds) (state_of self.old) (told call.entry)).0 ∷ []) }
-        ensures answers { Answers K.RowKinds.kinds E.Encoding.means self.old self.new (told call.entry) (called (K.RowKinds.kinds self.old.session.kinds) (state_of self.old) (told call.entry)).0 }
+        ensures heard { Hears L.Listener.hears listener.old listener.new ((called_on K.RowKinds.kinds E.Encoding.means self.old (told call.entry)).0 ∷ []) }
+        ensures answers { Answers K.RowKinds.kinds E.Encoding.means self.old self.new (told call.entry) (called_on K.RowKinds.kinds E.Encoding.means self.old (told call.entry)).0 }
     {
         self.answer_with(call, listener, |_, answer, listener| listener.hear(answer));
     }
@@ -55,7 +55,7 @@ impl<K: RowKinds, E: Encoding, B: Bank, M: Matcher> Planner<'_, K, E, B, M> {
 // Plays a list of calls on a new planner, hands each answer to a listener, and says how much is in use then.
 pub fn replay<
     K: RowKinds + Drop,
-    E: Encoding + Drop,
+    E: EncodingSet + Drop,
     B: Bank + Drop,
     M: Matcher + Drop,
     L: Listener,
@@ -66,11 +66,11 @@ pub fn replay<
     calls: &[Call],
     listener: &mut L,
 ) -> Usage
-    ensures heard { Hears L.Listener.hears listener.old listener.new (answers (played (K.RowKinds.kinds session.kinds) [] (map told calls.now))) }
-    ensures law { Law (K.RowKinds.kinds session.kinds) (E.Encoding.means session.encodings (K.RowKinds.kinds session.kinds)) (played (K.RowKinds.kinds session.kinds) [] (map told calls.now)) }
-    ensures roots { result.roots ≡ roots_used (state_after (played (K.RowKinds.kinds session.kinds) [] (map told calls.now))).roots }
-    ensures nodes { result.nodes ≡ nodes_used (state_after (played (K.RowKinds.kinds session.kinds) [] (map told calls.now))).memory.nodes }
-    ensures words { result.words ≡ words_used (state_after (played (K.RowKinds.kinds session.kinds) [] (map told calls.now))).memory.nodes }
+    ensures heard { Hears L.Listener.hears listener.old listener.new (answers (played_in K.RowKinds.kinds E.Encoding.means session (map told calls.now))) }
+    ensures law { Law (K.RowKinds.kinds session.kinds) (means_in K.RowKinds.kinds E.Encoding.means session) (played_in K.RowKinds.kinds E.Encoding.means session (map told calls.now)) }
+    ensures roots { result.roots ≡ roots_used (state_after (played_in K.RowKinds.kinds E.Encoding.means session (map told calls.now))).roots }
+    ensures nodes { result.nodes ≡ nodes_used (state_after (played_in K.RowKinds.kinds E.Encoding.means session (map told calls.now))).memory.nodes }
+    ensures words { result.words ≡ words_used (state_after (played_in K.RowKinds.kinds E.Encoding.means session (map told calls.now))).memory.nodes }
 {
     let mut planner = Planner::new(nodes, words, session);
     for call in calls {

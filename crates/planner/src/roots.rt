@@ -6,12 +6,12 @@ ghost use Rattle.planner.specs.Seen.{state_of, Answers};
 
 use crate::call::Refusal;
 use crate::planner::Planner;
-use encodings::encoding::Encoding;
+use encodings::encoding::EncodingSet;
 use encodings::matcher::Matcher;
 use optimizer::Bank;
 use rows::kinds::RowKinds;
 
-impl<K: RowKinds, E: Encoding, B: Bank, M: Matcher> Planner<'_, K, E, B, M> {
+impl<K: RowKinds, E: EncodingSet, B: Bank, M: Matcher> Planner<'_, K, E, B, M> {
     // The node under a root, if any. A root that does not exist is refused.
     pub(crate) fn root(&self, root: u8) -> Result<Option<u8>, Refusal>
         ensures { result ≡ root_in (state_of self.now) root }

@@ -1,5 +1,5 @@
 use crate::planner::Planner;
-use encodings::flat::Flat;
+use arrays::six::{Six, six};
 use encodings::matcher::AnyCanonical;
 use optimizer::EmptyBank;
 use rows::kinds::BaseKinds;
@@ -13,15 +13,17 @@ pub struct Session<K, E, B, M> {
     pub matcher: M,
 }
 
-impl Session<BaseKinds, Flat, EmptyBank, AnyCanonical> {
+impl Session<BaseKinds, Six, EmptyBank, AnyCanonical> {
     // What the programs work with.
-    pub const BASE: Session<BaseKinds, Flat, EmptyBank, AnyCanonical> = Session {
-        kinds: BaseKinds,
-        encodings: Flat,
-        bank: EmptyBank,
-        matcher: AnyCanonical,
-    };
+    pub fn base() -> Session<BaseKinds, Six, EmptyBank, AnyCanonical> {
+        Session {
+            kinds: BaseKinds,
+            encodings: six(),
+            bank: EmptyBank,
+            matcher: AnyCanonical,
+        }
+    }
 }
 
 // A planner of the programs.
-pub type BasePlanner<'a> = Planner<'a, BaseKinds, Flat, EmptyBank, AnyCanonical>;
+pub type BasePlanner<'a> = Planner<'a, BaseKinds, Six, EmptyBank, AnyCanonical>;

@@ -1,4 +1,4 @@
--- Slots retained, a node put in another's place, and the copy of a node that is shared.
+-- Slots retained, a node put in another's place, a node of its own for an array, and the copy of a node that is shared.
 use Rattle.std.proofs.Common.{◌≡◌, ℕ, suc, ◌+◌, ◌-◌, ◌<◌, ◌≤◌, Bool, true, false, eqb, fold, ◌⊎◌, List, [], ◌∷◌, ◌++◌, length, get_or, set, Some, None, Ok, Err, Option, Result, sym, refl, ap, ◌∙◌, subst, inl, inr, ⊎_elim, arith}
 use Rattle.std.proofs.lemmas.List.{length-append, length-set, get_or-set_same}
 use Rattle.std.proofs.lemmas.Bool.{eqb-true, eqb-false}
@@ -232,6 +232,84 @@ module _ (m : Memory) (n : ℕ) (nd : Node) (s : Settles m n nd) where
         cleared = settled_cleared o.cleared;
       }
 
+-- ---- a node of its own for an array: what it owes, and what it leaves once its children are retained
+pub record Fresh (m : Memory) (nd : Node) : Type 0 where
+  pub used : Used m.nodes nd.slots
+  pub no_run : nd.run ≡ 0
+  pub start : nd.start ≤ length m.words
+  pub one : nd.count ≡ 1
+  pub eight : length nd.slots ≡ 8
+  pub high : nd.height ≡ suc (tallest m.nodes nd.slots)
+  pub low : nd.height ≤ 32
+
+pub record Joined (m q : Memory) (nd : Node) (hs : List ℕ) (i : ℕ) : Type 0 where
+  pub ordered : Ordered q (i ∷ hs)
+  pub node : node_at q i ≡ nd
+  pub others : (k : ℕ) → 0 < count_at m.nodes k → SameAt m q k
+
+abbrev pub joined : Memory → Node → ℕ → Memory
+joined m nd i = put_node (each_slot retained m nd.slots) i nd
+
+still_free : (x y : Node) → KeptAt x y → x.count ≡ 0 → y.count ≡ 0
+still_free x y (same e u v) z = v z
+still_free x y (gone e) z = ap (λ (nd : Node). nd.count) e
+
+module _ (m : Memory) (hs : List ℕ) (nd : Node) (o : Ordered m hs) (w : Fresh m nd) where
+  all : AllRetained m (each_slot retained m nd.slots) nd.slots
+  all = all_retained m nd.slots w.used
+
+  spread_ordered : Ordered (each_slot retained m nd.slots) (names nd.slots ++ hs)
+  spread_ordered = spared_ordered m (each_slot retained m nd.slots) all.spared hs (names nd.slots ++ hs) o (all.counts hs o.counts)
+
+  -- what was in use still is, as it was
+  spread_same : (k : ℕ) → 0 < count_at m.nodes k → SameAt m (each_slot retained m nd.slots) k
+  spread_same k u = spared_same m (each_slot retained m nd.slots) all.spared o.apart k (omega (arith, u, all.more k))
+
+  module _ (i : ℕ) (place : i < length m.nodes) (free : count_at m.nodes i ≡ 0) where
+    spread_free : count_at (each_slot retained m nd.slots).nodes i ≡ 0
+    spread_free = still_free (node_at m i) (node_at (each_slot retained m nd.slots) i) (all.spared.kept i) free
+
+    spread_in : i < length (each_slot retained m nd.slots).nodes
+    spread_in = omega (arith, place, all.spared.nodes_long)
+
+    join_settles : Settles (each_slot retained m nd.slots) i nd
+    join_settles =
+        let q : Memory = each_slot retained m nd.slots in
+        let c = spread_ordered.counts i in
+        let tall : tallest q.nodes nd.slots ≡ tallest m.nodes nd.slots
+        = tallest_same m.nodes q.nodes nd.slots (λ k h. ap (λ (x : Node). x.height) (spread_same k (w.used k h)).same_node) in
+        record {
+          inside = spread_in;
+          unnamed = omega (arith, c, spread_free);
+          bare = ap (λ (x : Node). x.run) (spread_ordered.freed i spread_in spread_free);
+          no_run = w.no_run;
+          start = omega (arith, w.start, all.spared.words_long);
+          one = w.one;
+          eight = w.eight;
+          fresh = omega (arith, c, spread_free, times_append i (names nd.slots) hs);
+          high = omega (arith, tall, w.high);
+          low = w.low;
+        }
+
+    join_counts : Counts (joined m nd i).nodes (i ∷ hs)
+    join_counts =
+        let ss : List (Option ℕ) = nd.slots in
+        let ns : List Node = (each_slot retained m ss).nodes in
+        put_counts ns i nd (names ss ++ hs) (i ∷ hs) spread_in spread_ordered.counts
+        (λ k h e. omega (arith, w.one, spread_free, times_append k (names ss) hs, names_free k (get_or ns i blank) spread_free, names_used k nd (omega (arith, w.one))))
+        (λ k h. omega (arith, times_append k (names ss) hs, names_free k (get_or ns i blank) spread_free, names_used k nd (omega (arith, w.one))))
+
+    pub joined_is : Joined m (joined m nd i) nd hs i
+    joined_is =
+        let q : Memory = each_slot retained m nd.slots in
+        record {
+          ordered = settled_ordered q i nd join_settles (names nd.slots ++ hs) (i ∷ hs) spread_ordered join_counts;
+          node = get_or-set_same q.nodes i nd blank spread_in;
+          others = λ k u.
+              same_trans m q (joined m nd i) k (spread_same k u)
+              (settled_others q i nd join_settles k (λ e. omega (arith, u, free, ap (λ (j : ℕ). count_at m.nodes j) e)));
+        }
+
 -- ---- the node for a holder who is to change it
 pub record Owned (m q : Memory) (p : ℕ) (hs : List ℕ) (i : ℕ) : Type 0 where
   pub ordered : Ordered q (i ∷ hs)
@@ -271,15 +349,19 @@ abbrev pub spread : Memory → ℕ → Memory
 spread m p = each_slot retained (recounted m p (count_at m.nodes p - 1)) (slots_at m.nodes p)
 
 abbrev pub copied : Memory → ℕ → ℕ → Memory
-copied m p i = put_node (spread m p) i (with_count (node_at m p) 1)
+copied m p i = joined (recounted m p (count_at m.nodes p - 1)) (with_count (node_at m p) 1) i
 
--- with a holder less and others left, what p's slots name is in use
-pub less_slots : (m : Memory) (p : ℕ) (hs : List ℕ) → Counts m.nodes (p ∷ hs) → 1 < count_at m.nodes p → Used (recounted m p (count_at m.nodes p - 1)).nodes (slots_at m.nodes p)
-less_slots m p hs counts shared c h =
+-- with a holder less and others left, what was in use still is, and so is what p's slots name
+less_used : (m : Memory) (p : ℕ) (hs : List ℕ) → Counts m.nodes (p ∷ hs) → 1 < count_at m.nodes p → (k : ℕ) → 0 < count_at m.nodes k → 0 < count_at (recounted m p (count_at m.nodes p - 1)).nodes k
+less_used m p hs counts shared k u =
     ⊎_elim
     (λ q. omega (arith, q.1))
-    (λ q. omega (arith, q.1, named_used m.nodes (p ∷ hs) counts p c (owed_used m.nodes p hs counts) h))
-    (recount_cases m.nodes p (count_at m.nodes p - 1) (owed_in m.nodes p hs counts) c)
+    (λ q. omega (arith, q.1, u))
+    (recount_cases m.nodes p (count_at m.nodes p - 1) (owed_in m.nodes p hs counts) k)
+
+pub less_slots : (m : Memory) (p : ℕ) (hs : List ℕ) → Counts m.nodes (p ∷ hs) → 1 < count_at m.nodes p → Used (recounted m p (count_at m.nodes p - 1)).nodes (slots_at m.nodes p)
+less_slots m p hs counts shared c h =
+    less_used m p hs counts shared c (named_used m.nodes (p ∷ hs) counts p c (owed_used m.nodes p hs counts) h)
 
 pub spread_long : (m : Memory) (p : ℕ) (hs : List ℕ) → Counts m.nodes (p ∷ hs) → 1 < count_at m.nodes p → length (spread m p).nodes ≡ length m.nodes
 spread_long m p hs counts shared =
@@ -290,74 +372,40 @@ module _ (m : Memory) (p : ℕ) (hs : List ℕ) (o : Ordered m (p ∷ hs)) (shar
   less_spared : Spared m (recounted m p (count_at m.nodes p - 1))
   less_spared = recount_spared m p (count_at m.nodes p - 1) (omega arith) (omega arith)
 
-  all : AllRetained (recounted m p (count_at m.nodes p - 1)) (spread m p) (slots_at m.nodes p)
-  all = all_retained (recounted m p (count_at m.nodes p - 1)) (slots_at m.nodes p) (less_slots m p hs o.counts shared)
+  less_ordered : Ordered (recounted m p (count_at m.nodes p - 1)) hs
+  less_ordered =
+      spared_ordered m (recounted m p (count_at m.nodes p - 1)) less_spared (p ∷ hs) hs o
+      (less_counts m.nodes p hs o.counts (count_at m.nodes p - 1) (omega arith) (omega arith))
 
-  spread_spared : Spared m (spread m p)
-  spread_spared = spared_trans m (recounted m p (count_at m.nodes p - 1)) less_spared (spread m p) all.spared
+  less_same : (k : ℕ) → 0 < count_at m.nodes k → SameAt m (recounted m p (count_at m.nodes p - 1)) k
+  less_same k u = spared_same m (recounted m p (count_at m.nodes p - 1)) less_spared o.apart k (less_used m p hs o.counts shared k u)
 
-  spread_counts : Counts (spread m p).nodes (names (slots_at m.nodes p) ++ hs)
-  spread_counts = all.counts hs (less_counts m.nodes p hs o.counts (count_at m.nodes p - 1) (omega arith) (omega arith))
-
-  spread_ordered : Ordered (spread m p) (names (slots_at m.nodes p) ++ hs)
-  spread_ordered = spared_ordered m (spread m p) spread_spared (p ∷ hs) (names (slots_at m.nodes p) ++ hs) o spread_counts
-
-  -- what was in use still is, as it was
-  spread_used : (k : ℕ) → 0 < count_at m.nodes k → 0 < count_at (spread m p).nodes k
-  spread_used k u =
-      ⊎_elim
-      (λ q. omega (arith, q.1, all.more k))
-      (λ q. omega (arith, q.1, all.more k, u))
-      (recount_cases m.nodes p (count_at m.nodes p - 1) (owed_in m.nodes p hs o.counts) k)
-
-  spread_same : (k : ℕ) → 0 < count_at m.nodes k → SameAt m (spread m p) k
-  spread_same k u = spared_same m (spread m p) spread_spared o.apart k (spread_used k u)
-
-  still_free : (x y : Node) → KeptAt x y → x.count ≡ 0 → y.count ≡ 0
-  still_free x y (same e u v) z = v z
-  still_free x y (gone e) z = ap (λ (nd : Node). nd.count) e
-
-  module _ (i : ℕ) (place : i < length m.nodes) (free : count_at m.nodes i ≡ 0) (bare : run_at m.nodes p ≡ 0) where
-    spread_free : count_at (spread m p).nodes i ≡ 0
-    spread_free = still_free (node_at m i) (node_at (spread m p) i) (spread_spared.kept i) free
-
-    spread_in : i < length (spread m p).nodes
-    spread_in = omega (arith, place, spread_spared.nodes_long)
-
-    copy_settles : Settles (spread m p) i (with_count (node_at m p) 1)
-    copy_settles =
+  module _ (bare : run_at m.nodes p ≡ 0) where
+    copy_fresh : Fresh (recounted m p (count_at m.nodes p - 1)) (with_count (node_at m p) 1)
+    copy_fresh =
         let ss : List (Option ℕ) = slots_at m.nodes p in
-        let c = spread_counts i in
-        let tall : tallest (spread m p).nodes ss ≡ tallest m.nodes ss
-        = tallest_same m.nodes (spread m p).nodes ss (λ k h. ap (λ (x : Node). x.height) (spread_same k (slots_used m p hs o k h)).same_node) in
+        let tall : tallest (recounted m p (count_at m.nodes p - 1)).nodes ss ≡ tallest m.nodes ss
+        = tallest_same m.nodes (recounted m p (count_at m.nodes p - 1)).nodes ss (λ k h. ap (λ (x : Node). x.height) (less_same k (slots_used m p hs o k h)).same_node) in
         record {
-          inside = spread_in;
-          unnamed = omega (arith, c, spread_free);
-          bare = ap (λ (x : Node). x.run) (spread_ordered.freed i spread_in spread_free);
+          used = less_slots m p hs o.counts shared;
           no_run = bare;
-          start = omega (arith, o.within p, spread_spared.words_long);
+          start = omega (arith, o.within p);
           one = refl;
           eight = o.eight p (owed_in m.nodes p hs o.counts);
-          fresh = omega (arith, c, spread_free, times_append i (names ss) hs);
           high = omega (arith, tall, o.heights p (omega arith));
           low = o.low p;
         }
 
-    copy_counts : Counts (copied m p i).nodes (i ∷ hs)
-    copy_counts =
-        let nd : Node = with_count (node_at m p) 1 in
-        let ss : List (Option ℕ) = slots_at m.nodes p in
-        let ns : List Node = (spread m p).nodes in
-        put_counts ns i nd (names ss ++ hs) (i ∷ hs) spread_in spread_counts
-        (λ k h e. omega (arith, spread_free, times_append k (names ss) hs, names_free k (get_or ns i blank) spread_free, names_used k nd (omega arith)))
-        (λ k h. omega (arith, times_append k (names ss) hs, names_free k (get_or ns i blank) spread_free, names_used k nd (omega arith)))
-
-    pub copy_owned : LowestNode m.nodes (Some i) → Owned m (copied m p i) p hs i
-    copy_owned lowest =
+    pub copy_owned : (i : ℕ) → LowestNode m.nodes (Some i) → Owned m (copied m p i) p hs i
+    copy_owned i lowest =
+        let b : Memory = recounted m p (count_at m.nodes p - 1) in
+        let free : count_at m.nodes i ≡ 0 = lowest.1 in
+        let w = joined_is b hs (with_count (node_at m p) 1) less_ordered copy_fresh i (omega (arith, lowest.0, less_spared.nodes_long))
+        (still_free (node_at m i) (node_at b i) (less_spared.kept i) free) in
         record {
-          ordered = settled_ordered (spread m p) i (with_count (node_at m p) 1) copy_settles (names (slots_at m.nodes p) ++ hs) (i ∷ hs) spread_ordered copy_counts;
-          node = get_or-set_same (spread m p).nodes i (with_count (node_at m p) 1) blank spread_in;
-          others = λ k u ne. same_trans m (spread m p) (copied m p i) k (spread_same k u) (settled_others (spread m p) i (with_count (node_at m p) 1) copy_settles k ne);
+          ordered = w.ordered;
+          node = w.node;
+          others = λ k u ne. same_trans m b (copied m p i) k (less_same k u) (w.others k (less_used m p hs o.counts shared k u));
           unnamed = omega (arith, o.counts i, free);
           unheld = omega (arith, o.counts i, free);
           own = λ e. absurd (omega arith);
@@ -379,4 +427,4 @@ owned_is m p hs o bare = go (eqb (count_at m.nodes p) 1) refl (lowest_free m.nod
     go : (b : Bool) → eqb (count_at m.nodes p) 1 ≡ b → (f : Option ℕ) → LowestNode m.nodes f → OwnedAs m p hs (owned_by m p b f).0 (owned_by m p b f).1
     go true e f h = alone m p hs o (eqb-true (count_at m.nodes p) 1 e)
     go false e None h = (refl, refl, record { shared = many e; full = h })
-    go false e (Some i) h = copy_owned m p hs o (many e) i h.0 h.1 bare h
+    go false e (Some i) h = copy_owned m p hs o (many e) bare i h

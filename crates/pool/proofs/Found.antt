@@ -3,7 +3,7 @@ use Rattle.std.proofs.Common.{◌≡◌, ℕ, zero, suc, ◌+◌, ◌-◌, ◌<�
 use Rattle.std.proofs.lemmas.Bool.{cases_Bool, cases_lt, eqb-true, eqb-false, lt-ltb, le-ltb, ltb-true, true≢false}
 use Rattle.pool.specs.declared.node.Node.{Node}
 use Rattle.pool.specs.Memory.{Memory, count_at, start_at, run_at}
-use Rattle.pool.specs.Finding.{lowest_free, meets, unused, lowest_run, find_run, Room, Lowest, LowestNode}
+use Rattle.pool.specs.Finding.{lowest_free, free_nodes, meets, unused, lowest_run, find_run, Room, Lowest, LowestNode}
 
 -- ---- nodes
 -- the same of a list of which the first is number b
@@ -48,6 +48,28 @@ lowest_one ns None None p q = refl
 lowest_one ns None (Some j) p q = absurd (omega (arith, p j q.0, q.1))
 lowest_one ns (Some i) None p q = absurd (omega (arith, q i p.0, p.1))
 lowest_one ns (Some i) (Some j) p q = ap (λ (k : ℕ). Some k) (grind (arith, p.1, q.1, p.2 j, q.2 i))
+
+-- n nodes are not in use, where the search for one gives this
+Left : ℕ → Option ℕ → Type 0
+Left n None = n ≡ 0
+Left n (Some i) = 0 < n
+
+left_from : (ns : List Node) (b : ℕ) → Left (free_nodes ns) (lowest_free ns b)
+unfolding Left
+left_from [] b = refl
+left_from (nd ∷ ns) b = go (eqb nd.count 0) (lowest_free ns (b + 1)) (left_from ns (b + 1))
+  where
+    go : (t : Bool) (o : Option ℕ) → Left (free_nodes ns) o → Left (elim t [ true ↦ 1 + free_nodes ns | false ↦ free_nodes ns ]) (elim t [ true ↦ Some b | false ↦ o ])
+    go true o h = omega arith
+    go false o h = h
+
+pub free_none : (ns : List Node) → lowest_free ns 0 ≡ None → free_nodes ns ≡ 0
+unfolding Left
+free_none ns e = subst (λ (o : Option ℕ). Left (free_nodes ns) o) e (left_from ns 0)
+
+pub free_some : (ns : List Node) (i : ℕ) → lowest_free ns 0 ≡ Some i → 0 < free_nodes ns
+unfolding Left
+free_some ns i e = subst (λ (o : Option ℕ). Left (free_nodes ns) o) e (left_from ns 0)
 
 -- ---- runs
 -- one of the n words from `at` on is in the run
@@ -132,6 +154,10 @@ pub run_skips : (m : Memory) (n at k e : ℕ) → at < e → 0 < n → start_at 
 run_skips m n at k e a p b q c =
     lowest_skip (e - at) (suc (length m.words) - n - at) m.nodes at n (λ t l u. used_at m.nodes t n k (p, q, omega arith, omega arith))
     ∙ again (suc (length m.words) - n - at - (e - at)) (suc (length m.words) - n - e) m.nodes (at + (e - at)) e n (omega arith) (omega arith)
+
+-- a run of no words is always there
+pub find_none : (m : Memory) → find_run m 0 ≡ Some 0
+find_none m = run_begins m 0 ∙ run_here m 0 0 (omega arith) (unused_clear m.nodes 0 0 (λ k l. omega arith))
 
 RunFrom : List Node → ℕ → ℕ → ℕ → Option ℕ → Type 0
 RunFrom ns f at n None = (t : ℕ) → at ≤ t → t < at + f → unused ns t n ≡ false

@@ -1,7 +1,9 @@
+pub mod Abandoning
 pub mod Building
 pub mod Copying
 pub mod Counted
 pub mod Found
+pub mod Inserting
 pub mod Naming
 pub mod Placing
 pub mod Reached
@@ -9,3 +11,4 @@ pub mod Releasing
 pub mod Slotting
 pub mod Spared
 pub mod Used
+pub mod Filling

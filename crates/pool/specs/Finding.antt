@@ -8,6 +8,11 @@ abbrev pub lowest_free : List Node → ℕ → Option ℕ
 lowest_free [] i = None
 lowest_free (nd ∷ ns) i = elim (nd.count == 0) [ true ↦ Some i | false ↦ lowest_free ns (i + 1) ]
 
+-- how many nodes are not in use
+abbrev pub free_nodes : List Node → ℕ
+free_nodes [] = 0
+free_nodes (nd ∷ ns) = elim (nd.count == 0) [ true ↦ 1 + free_nodes ns | false ↦ free_nodes ns ]
+
 -- the node has one of the n words from `at` on
 abbrev pub meets : Node → ℕ → ℕ → Bool
 meets nd at n = nat_lt (max at nd.start) (min (at + n) (nd.start + nd.run))

@@ -5,4 +5,5 @@ pub mod Sharing
 pub mod Finding
 pub mod Building
 pub mod Slots
+pub mod Inserting
 pub mod Seen

@@ -2,8 +2,8 @@
 // SPDX-FileCopyrightText: Copyright the Vortex contributors
 // Changed: ported from Rust to Rattle, over nodes and runs of words in a pool.
 
-ghost use Rattle.std.specs.Prelude.{◌≡◌, ◌+◌, ◌<◌, ◌≤◌, length};
-ghost use Rattle.pool.specs.Building.{opened, append_row, finished, Open};
+ghost use Rattle.std.specs.Prelude.{◌≡◌, ℕ, ◌+◌, ◌<◌, ◌≤◌, length, replicate};
+ghost use Rattle.pool.specs.Building.{opened, append_row, append_rows, finished, Open};
 ghost use Rattle.pool.specs.Seen.{memory_of};
 
 use crate::node::{FLAT, Node, PoolFault};
@@ -55,6 +55,18 @@ impl Pool<'_> {
         let node = self.nodes[builder.node as usize];
         let run = &mut self.words[node.words()];
         builder.filled = kinds.append(node.kind, run, node.len, builder.filled, row);
+    }
+
+    // A row n times more in an open builder.
+    pub fn append_n<K: RowKinds>(&mut self, kinds: &K, builder: &mut Builder, row: Row, n: u16)
+        requires { (k : ℕ) → k < n → Open (K.RowKinds.kinds kinds.now) (memory_of self.old) builder.old.node (builder.old.filled + k) row }
+        ensures after { memory_of self.new ≡ append_rows (K.RowKinds.kinds kinds.now) (memory_of self.old) builder.old.node builder.old.filled (replicate n row) }
+        ensures node { builder.new.node ≡ builder.old.node }
+        ensures filled { builder.new.filled ≡ builder.old.filled + n }
+    {
+        for _ in 0..n {
+            self.append(kinds, builder, row);
+        }
     }
 
     // The Flat array that a builder has become.

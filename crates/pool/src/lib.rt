@@ -2,6 +2,7 @@
 
 pub mod builder;
 pub mod finding;
+pub mod insert;
 pub mod node;
 pub mod pool;
 pub mod seen;

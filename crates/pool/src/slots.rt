@@ -15,7 +15,7 @@ use crate::pool::Pool;
 impl Pool<'_> {
     // One holder more of all that the slots name. Not one function with `release_slots`, which calls back into
     // `release`.
-    fn retain_slots(&mut self, slots: [Option<u8>; SLOTS])
+    pub(crate) fn retain_slots(&mut self, slots: [Option<u8>; SLOTS])
         requires used { (c : ℕ) → 0 < times c (names slots) → 0 < count_at self.old.nodes.now c }
         requires room { (k : ℕ) → count_at self.old.nodes.now k + 8 < 65536 }
         ensures { memory_of self.new ≡ each_slot retained (memory_of self.old) slots }
@@ -44,7 +44,7 @@ impl Pool<'_> {
     }
 
     // The height of the tallest child that the slots name.
-    fn tallest(&self, slots: [Option<u8>; SLOTS]) -> u8
+    pub(crate) fn tallest(&self, slots: [Option<u8>; SLOTS]) -> u8
         requires { (c : ℕ) → 0 < times c (names slots) → c < length self.now.nodes.now }
         ensures { result ≡ tallest self.now.nodes.now slots }
     {

@@ -7,6 +7,8 @@ use Rattle.rows.specs.declared.row.Row.{Row}
 pub record Kind : Type 0 where
   -- the rows that it takes
   pub takes : Row → Bool
+  -- the row that the parameter of a constant array stands for
+  pub constant : ℕ → Row
   -- the words that n rows need
   pub words : ℕ → ℕ
   -- row k of the n rows in a run

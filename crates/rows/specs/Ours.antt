@@ -10,6 +10,7 @@ four bs = slice_index bs 0 * 16777216 + slice_index bs 1 * 65536 + slice_index b
 abbrev pub number : Kind
 number = record {
   takes = λ r. true;
+  constant = λ p. record { value = p };
   words = λ n. n;
   row = λ n run k. record { value = slice_index run k };
   put = λ n run k r. slice_set run k r.value;
@@ -31,6 +32,7 @@ with_bit w j v = (w - bit w j * 2 ^ j) + v * 2 ^ j
 abbrev pub mark : Kind
 mark = record {
   takes = λ r. nat_lt r.value 2;
+  constant = λ p. record { value = p };
   words = λ n. (n + 31) / 32;
   row = λ n run k. record { value = bit (slice_index run (k / 32)) (k % 32) };
   put = λ n run k r. slice_set run (k / 32) (with_bit (slice_index run (k / 32)) (k % 32) r.value);

@@ -3,17 +3,21 @@ ghost use Rattle.rows.specs.Kind.{Kind, LawfulKind};
 
 use crate::row::Row;
 
-// A row kind: a list of rows held in a run of words. It says which rows it takes, how many words n rows need, reads row
-// k of n, and writes it and no other; and how a row stands in a line. A run and the number of its rows stay two
-// parameters: a struct of both would be written twice, for `&` and for `&mut`, and could not say that the kind asks for
-// so many words. What a member requires, its callers require again: a type that said it would be narrower than a u16 or
-// a Row, and depend on the kind.
+// A row kind: a list of rows held in a run of words. It says which rows it takes, which row the parameter of a
+// constant array stands for, how many words n rows need, reads row k of n, and writes it and no other; and how a row
+// stands in a line. A run and the number of its rows stay two parameters: a struct of both would be written twice, for
+// `&` and for `&mut`, and could not say that the kind asks for so many words. What a member requires, its callers
+// require again: a type that said it would be narrower than a u16 or a Row, and depend on the kind.
 pub trait RowKind {
     ghost means: { Self → Kind };
 
     // Whether the kind takes the row.
     fn takes(&self, row: Row) -> bool
         ensures { result ≡ (means self.now).takes row };
+
+    // The row that the parameter of a constant array stands for. The kind need not take it.
+    fn constant(&self, parameter: u32) -> Row
+        ensures { result ≡ (means self.now).constant parameter };
 
     // The words that n rows need.
     fn words(&self, n: u16) -> u16

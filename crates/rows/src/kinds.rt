@@ -26,6 +26,14 @@ pub trait RowKinds {
     fn has(&self, kind: u8) -> bool
         ensures { result ≡ (kinds self.now).has kind };
 
+    // Whether the kind takes the row.
+    fn takes(&self, kind: u8, row: Row) -> bool
+        ensures { result ≡ ((kinds self.now).kind kind).takes row };
+
+    // The row of the kind that the parameter of a constant array stands for. The kind need not take it.
+    fn constant(&self, kind: u8, parameter: u32) -> Row
+        ensures { result ≡ ((kinds self.now).kind kind).constant parameter };
+
     // The words that n rows of the kind need.
     fn words(&self, kind: u8, n: u16) -> u16
         requires { n ≤ 1024 }
@@ -73,6 +81,22 @@ impl RowKinds for BaseKinds {
 
     fn has(&self, kind: u8) -> bool {
         kind == NUMBER || kind == MARK
+    }
+
+    fn takes(&self, kind: u8, row: Row) -> bool {
+        if kind == MARK {
+            Mark.takes(row)
+        } else {
+            Number.takes(row)
+        }
+    }
+
+    fn constant(&self, kind: u8, parameter: u32) -> Row {
+        if kind == MARK {
+            Mark.constant(parameter)
+        } else {
+            Number.constant(parameter)
+        }
     }
 
     fn words(&self, kind: u8, n: u16) -> u16 {
@@ -152,6 +176,22 @@ impl<S: RowKinds, K: RowKind> RowKinds for Joined<S, K> {
 
     fn has(&self, kind: u8) -> bool {
         self.set.has(kind) || kind == self.number
+    }
+
+    fn takes(&self, kind: u8, row: Row) -> bool {
+        if self.adds(kind) {
+            self.kind.takes(row)
+        } else {
+            self.set.takes(kind, row)
+        }
+    }
+
+    fn constant(&self, kind: u8, parameter: u32) -> Row {
+        if self.adds(kind) {
+            self.kind.constant(parameter)
+        } else {
+            self.set.constant(kind, parameter)
+        }
     }
 
     fn words(&self, kind: u8, n: u16) -> u16 {

@@ -18,6 +18,11 @@ impl RowKind for Mark {
         row.value < 2
     }
 
+    fn constant(&self, parameter: u32) -> Row {
+        // a parameter above 1 gives a row that the kind does not take
+        Row { value: parameter }
+    }
+
     fn words(&self, n: u16) -> u16 {
         n.div_ceil(32)
     }

@@ -18,6 +18,10 @@ impl RowKind for Number {
         true
     }
 
+    fn constant(&self, parameter: u32) -> Row {
+        Row { value: parameter }
+    }
+
     fn words(&self, n: u16) -> u16 {
         n
     }

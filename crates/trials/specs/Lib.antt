@@ -1,2 +1,5 @@
+pub mod Stack
+pub mod Stacks
 pub mod Wide
 pub mod Wides
+pub mod Steps

@@ -6,6 +6,7 @@ use Rattle.rows.specs.Ours.{number}
 abbrev pub wide : Kind
 wide = record {
   takes = λ r. true;
+  constant = λ p. record { value = p };
   words = λ n. 2 * n;
   row = λ n run k. record { value = slice_index run (2 * k) };
   put = λ n run k r. slice_set (slice_set run (2 * k) r.value) (2 * k + 1) (4294967295 - r.value);

@@ -1,6 +1,6 @@
 use crate::wide::WIDE_KINDS;
-use encodings::encoding::Encoding;
-use encodings::flat::Flat;
+use arrays::flat::Flat;
+use encodings::encoding::EncodingSet;
 use encodings::matcher::{AnyArray, Matcher};
 use lines::buffer::LineBuffer;
 use lines::respond::respond;
@@ -25,7 +25,7 @@ fn session<K>(kinds: K) -> Session<K, Flat, EmptyBank, AnyArray> {
 }
 
 // Whether a line is answered so.
-fn answers<K: RowKinds, E: Encoding, B: Bank, M: Matcher>(
+fn answers<K: RowKinds, E: EncodingSet, B: Bank, M: Matcher>(
     rt: &impl Abort,
     heap: Global,
     planner: &mut Planner<'_, K, E, B, M>,

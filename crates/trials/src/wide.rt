@@ -30,6 +30,10 @@ impl RowKind for Wide {
         true
     }
 
+    fn constant(&self, parameter: u32) -> Row {
+        Row { value: parameter }
+    }
+
     fn words(&self, n: u16) -> u16 {
         2 * n
     }

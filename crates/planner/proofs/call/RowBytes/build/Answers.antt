@@ -7,7 +7,7 @@ use Rattle.pool.specs.Building.{append_row, append_rows, finished, Open}
 use Rattle.pool.specs.Seen.{memory_of}
 use Rattle.planner.specs.Contract.{rows_parsed}
 use Rattle.planner.proofs.Parsing.{parsed_some, parsed_long}
-use Rattle.planner.proofs.Filling.{opened_ok, open_at, builder_inside, append_step, built_ok}
+use Rattle.pool.proofs.Filling.{opened_ok, open_at, builder_inside, append_step, built_ok}
 use Rattle.planner.proofs.call.RowBytes.build.Goals as goal
 
 pub unwrap-row-requires : goal.unwrap-row-requires

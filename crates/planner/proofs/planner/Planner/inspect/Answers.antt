@@ -11,4 +11,4 @@ returns-clause-roots g c =
     counted ∙ used_counted c.args.self.now.roots
 
 pub returns-clause-law : goal.returns-clause-law
-returns-clause-law g c = λ h r. (history_law _ (g.met.K.RowKinds.lawful _) _ (g.E.Encoding.lawful _ _) h r.answered).1
+returns-clause-law g c = λ h r. (history_law _ (g.met.K.RowKinds.lawful _) _ (g.met.E.EncodingSet.complete _ _) h r.answered).1

@@ -22,7 +22,7 @@ pub returns-then-not-is_sized : goal.returns-then-not-is_sized
 returns-then-not-is_sized g c =
     let s : State = state_of c.args.self.now in
     let ks : Kinds = g.K.RowKinds.kinds c.args.self.now.session.kinds in
-    answered g.met.K.RowKinds.lawful g.E.Encoding.lawful
+    answered g.met.K.RowKinds.lawful g.met.E.EncodingSet.complete
     (made_is ks s c.args.root c.args.rows.kind c.args.rows.len c.args.rows.bytes.now false (root_in s c.args.root) (rows_made ks c.args.rows.kind c.args.rows.len c.args.rows.bytes.now) (sym c.if-not-is_sized.ensures) refl refl)
     refl
 
@@ -31,7 +31,7 @@ returns-in_err-root g c =
     let s : State = state_of c.args.self.now in
     let ks : Kinds = g.K.RowKinds.kinds c.args.self.now.session.kinds in
     let p = err_from_is_err_and c.from_residual.result c.from_residual.ensures.1 in
-    answered g.met.K.RowKinds.lawful g.E.Encoding.lawful
+    answered g.met.K.RowKinds.lawful g.met.E.EncodingSet.complete
     (ap (λ r. (outcome r, s)) p.1 ∙ ap (λ x. (refused x, s)) p.2
     ∙ made_is ks s c.args.root c.args.rows.kind c.args.rows.len c.args.rows.bytes.now true (Err c.in_err-root.field-0.0) (rows_made ks c.args.rows.kind c.args.rows.len c.args.rows.bytes.now) (sym c.if-not-is_sized.ensures) (sym c.in_err-root.was ∙ c.root.ensures) refl)
     refl
@@ -41,7 +41,7 @@ returns-then-is_some g c =
     let s : State = state_of c.args.self.now in
     let ks : Kinds = g.K.RowKinds.kinds c.args.self.now.session.kinds in
     let rs : Option (List Row) = rows_made ks c.args.rows.kind c.args.rows.len c.args.rows.bytes.now in
-    answered g.met.K.RowKinds.lawful g.E.Encoding.lawful
+    answered g.met.K.RowKinds.lawful g.met.E.EncodingSet.complete
     (taken_by (refused RootTaken, s) (make_by ks s c.args.root c.args.rows.kind c.args.rows.len true (Ok None) rs) c.in_ok-root.field-0 (sym c.if-is_some.ensures)
     ∙ made_is ks s c.args.root c.args.rows.kind c.args.rows.len c.args.rows.bytes.now true (Ok c.in_ok-root.field-0) rs (sym c.if-not-is_sized.ensures) (sym c.in_ok-root.was ∙ c.root.ensures) refl)
     refl
@@ -54,7 +54,7 @@ pub returns-then-not-are_rows : goal.returns-then-not-are_rows
 returns-then-not-are_rows g c =
     let s : State = state_of c.args.self.now in
     let ks : Kinds = g.K.RowKinds.kinds c.args.self.now.session.kinds in
-    answered g.met.K.RowKinds.lawful g.E.Encoding.lawful
+    answered g.met.K.RowKinds.lawful g.met.E.EncodingSet.complete
     (made_is ks s c.args.root c.args.rows.kind c.args.rows.len c.args.rows.bytes.now true (Ok None) None (sym c.if-not-is_sized.ensures)
     (free s c.args.root c.root.result c.in_ok-root.field-0 c.in_ok-root.was c.root.ensures (sym c.if-is_some.ensures)) (made_none ks c.args.rows.kind c.args.rows.len c.args.rows.bytes.now (sym c.if-not-are_rows.ensures)))
     refl
@@ -79,7 +79,7 @@ returns-in_err-node g c =
     let known = made_known ks c.args.rows.kind c.args.rows.len c.args.rows.bytes.now (sym c.if-not-are_rows.ensures) in
     let e : (Err c.in_err-node.field-0.0, memory_of c.build.new.pool) ≡ built ks s.memory c.args.rows.kind c.args.rows.len rs
     = ap (λ (r : Result ℕ PoolFault). (r, memory_of c.build.new.pool)) (sym c.in_err-node.was) ∙ c.build.ensures in
-    answered g.met.K.RowKinds.lawful g.E.Encoding.lawful
+    answered g.met.K.RowKinds.lawful g.met.E.EncodingSet.complete
     (ap (λ (a : Said). (a, record { memory = memory_of c.build.new.pool; roots = s.roots })) (ap (λ r. outcome r) p.1 ∙ ap (λ x. refused x) p.2)
     ∙ ap (λ (b : Result ℕ PoolFault × Memory). placed s c.args.root b) e
     ∙ made_is ks s c.args.root c.args.rows.kind c.args.rows.len c.args.rows.bytes.now true (Ok None) (Some rs) (sym c.if-not-is_sized.ensures)
@@ -108,7 +108,7 @@ returns g c =
     let known = made_known ks c.args.rows.kind c.args.rows.len c.args.rows.bytes.now (sym c.if-not-are_rows.ensures) in
     let e : (Ok c.in_ok-node.node, memory_of c.build.new.pool) ≡ built ks s.memory c.args.rows.kind c.args.rows.len rs
     = ap (λ (r : Result ℕ PoolFault). (r, memory_of c.build.new.pool)) (sym c.in_ok-node.was) ∙ c.build.ensures in
-    answered g.met.K.RowKinds.lawful g.E.Encoding.lawful
+    answered g.met.K.RowKinds.lawful g.met.E.EncodingSet.complete
     (ap (λ (b : Result ℕ PoolFault × Memory). placed s c.args.root b) e
     ∙ made_is ks s c.args.root c.args.rows.kind c.args.rows.len c.args.rows.bytes.now true (Ok None) (Some rs) (sym c.if-not-is_sized.ensures)
     (free s c.args.root c.root.result c.in_ok-root.field-0 c.in_ok-root.was c.root.ensures (sym c.if-is_some.ensures)) (rows_known ks c.args.rows.kind c.args.rows.len c.args.rows.bytes.now known.0 known.1))

@@ -15,7 +15,7 @@ pub returns-in_err-node : goal.returns-in_err-node
 returns-in_err-node g c =
     let s : State = state_of c.args.self.now in
     let p = err_from_is_err_and c.from_residual.result c.from_residual.ensures.1 in
-    answered g.met.K.RowKinds.lawful g.E.Encoding.lawful
+    answered g.met.K.RowKinds.lawful g.met.E.EncodingSet.complete
     (ap (λ r. (outcome r, s)) p.1 ∙ ap (λ x. (refused x, s)) p.2 ∙ emptied_is s c.args.root (Err c.in_err-node.field-0.0) (sym c.in_err-node.was ∙ c.held.ensures))
     refl
 
@@ -42,7 +42,7 @@ invariant_of-self g c =
 pub returns : goal.returns
 returns g c =
     let s : State = state_of c.args.self.now in
-    answered g.met.K.RowKinds.lawful g.E.Encoding.lawful
+    answered g.met.K.RowKinds.lawful g.met.E.EncodingSet.complete
     (ap (λ (m : Memory). (done, with_root s m c.args.root None)) (c.release.ensures (suc (height_at s.memory.nodes c.in_ok-node.node)) (omega arith))
     ∙ emptied_is s c.args.root (Ok c.in_ok-node.node) (sym c.in_ok-node.was ∙ c.held.ensures))
     refl

@@ -17,7 +17,7 @@ pub returns-in_err-target : goal.returns-in_err-target
 returns-in_err-target g c =
     let s : State = state_of c.args.self.now in
     let p = err_from_is_err_and c.from_residual.result c.from_residual.ensures.1 in
-    answered g.met.K.RowKinds.lawful g.E.Encoding.lawful
+    answered g.met.K.RowKinds.lawful g.met.E.EncodingSet.complete
     (ap (λ r. (outcome r, s)) p.1 ∙ ap (λ x. (refused x, s)) p.2 ∙ shared_is s c.args.to c.args.from (Err c.in_err-target.field-0.0) _ (sym c.in_err-target.was ∙ c.root.ensures) refl)
     refl
 
@@ -25,7 +25,7 @@ pub returns-in_err-node : goal.returns-in_err-node
 returns-in_err-node g c =
     let s : State = state_of c.args.self.now in
     let p = err_from_is_err_and c.from_residual-in_err-node.result c.from_residual-in_err-node.ensures.1 in
-    answered g.met.K.RowKinds.lawful g.E.Encoding.lawful
+    answered g.met.K.RowKinds.lawful g.met.E.EncodingSet.complete
     (ap (λ r. (outcome r, s)) p.1 ∙ ap (λ x. (refused x, s)) p.2
     ∙ shared_is s c.args.to c.args.from (Ok c.in_ok-target.target) (Err c.in_err-node.field-0.0) (sym c.in_ok-target.was ∙ c.root.ensures) (sym c.in_err-node.was ∙ c.held.ensures))
     refl
@@ -34,7 +34,7 @@ pub returns-then-is_some : goal.returns-then-is_some
 returns-then-is_some g c =
     let s : State = state_of c.args.self.now in
     let k : ℕ = c.in_ok-node.node in
-    answered g.met.K.RowKinds.lawful g.E.Encoding.lawful
+    answered g.met.K.RowKinds.lawful g.met.E.EncodingSet.complete
     (taken_by (refused RootTaken, s) (done, with_root s (sharing.retained s.memory k) c.args.to (Some k)) c.in_ok-target.target (sym c.if-is_some.ensures)
     ∙ shared_is s c.args.to c.args.from (Ok c.in_ok-target.target) (Ok k) (sym c.in_ok-target.was ∙ c.root.ensures) (sym c.in_ok-node.was ∙ c.held.ensures))
     refl
@@ -62,7 +62,7 @@ pub returns : goal.returns
 returns g c =
     let s : State = state_of c.args.self.now in
     let k : ℕ = c.in_ok-node.node in
-    answered g.met.K.RowKinds.lawful g.E.Encoding.lawful
+    answered g.met.K.RowKinds.lawful g.met.E.EncodingSet.complete
     (ap (λ (m : Memory). (done, with_root s m c.args.to (Some k))) c.retain.ensures
     ∙ shared_is s c.args.to c.args.from (Ok None) (Ok k) (ap (λ (o : Option ℕ). Ok o) (sym (empty_by c.in_ok-target.target (sym c.if-is_some.ensures))) ∙ sym c.in_ok-target.was ∙ c.root.ensures) (sym c.in_ok-node.was ∙ c.held.ensures))
     refl
