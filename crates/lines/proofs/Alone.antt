@@ -19,7 +19,7 @@ bytes_more x xs h k zero = h
 bytes_more x xs h k (suc i) = k i
 
 -- a text is the one that its bytes are spelled as
-decoded_spelled : (text bs : List ℕ) → decoded text ≡ Some bs → (spelled bs ≡ text) × Bytes bs
+pub decoded_spelled : (text bs : List ℕ) → decoded text ≡ Some bs → (spelled bs ≡ text) × Bytes bs
 decoded_spelled [] [] e = (refl, λ i. omega arith)
 decoded_spelled [] (x ∷ xs) e = cc
 decoded_spelled (a ∷ []) bs e = cc

@@ -16,3 +16,4 @@ pub mod Rooted
 pub mod Counting
 pub mod Making
 pub mod Playing
+pub mod Tallying

@@ -6,12 +6,12 @@ use Rattle.rows.specs.Kind.{Kind, Kinds, LawfulKind, Taken, rows, appended}
 use Rattle.rows.proofs.Appending.{appended_long, appended_tidy, appended_whole}
 use Rattle.pool.specs.declared.node.Node.{Node}
 use Rattle.pool.specs.declared.node.PoolFault.{PoolFault}
-use Rattle.pool.specs.declared.node.PoolFault.TheVariants.{Nodes, Words}
+use Rattle.pool.specs.declared.node.PoolFault.TheVariants.{Height, Nodes, Words}
 use Rattle.pool.specs.Memory.{Memory, blank, no_slots, node_at, count_at, start_at, run_at, with_encoding, put_node, with_words, part, overwritten, run_of, with_run}
 use Rattle.pool.specs.Order.{Ordered, Change}
-use Rattle.pool.specs.Finding.{lowest_free, find_run, Room, LowestNode}
+use Rattle.pool.specs.Finding.{lowest_free, find_run, Room, Lowest, LowestNode}
 use Rattle.pool.specs.Building.{open_node, append_rows, finished, built}
-use Rattle.pool.proofs.Found.{lowest_free_is, found_room}
+use Rattle.pool.proofs.Found.{lowest_free_is, find_run_is, found_room}
 use Rattle.pool.proofs.Placing.{placed, placed_change, over_long, over_part, over_over, over_same}
 
 -- appending row by row writes the run that all the rows come to
@@ -170,3 +170,30 @@ built_is ks m hs kind n rs law o all taken = go (lowest_free m.nodes 0) (lowest_
     go None a r b = refl
     go (Some i) a None b = refl
     go (Some i) a (Some s) b = built_at ks m hs kind n rs law o i s a.0 a.1 b all taken
+
+-- why a build is refused
+pub refused_nodes : (ks : Kinds) (m : Memory) (kind n : ℕ) (rs : List Row) → (built ks m kind n rs).0 ≡ Err Nodes → (k : ℕ) → k < length m.nodes → 0 < count_at m.nodes k
+refused_nodes ks m kind n rs = go (lowest_free m.nodes 0) (lowest_free_is m.nodes) (find_run m ((ks.kind kind).words n))
+  where
+    go : (f : Option ℕ) → LowestNode m.nodes f → (r : Option ℕ) → (found ks m kind n rs f r).0 ≡ Err Nodes → (k : ℕ) → k < length m.nodes → 0 < count_at m.nodes k
+    go None a r e = a
+    go (Some i) a None e = absurd (let z : ◌≡◌ {A = ℕ} 0 1 = cc in omega arith)
+    go (Some i) a (Some s) e = absurd (let z : ◌≡◌ {A = ℕ} 0 1 = cc in omega arith)
+
+pub refused_words : (ks : Kinds) (m : Memory) (kind n : ℕ) (rs : List Row) → (built ks m kind n rs).0 ≡ Err Words
+    → ((i : ℕ) × (i < length m.nodes) × (count_at m.nodes i ≡ 0)) × ((s : ℕ) → Room m ((ks.kind kind).words n) s → ⊥)
+refused_words ks m kind n rs = go (lowest_free m.nodes 0) (lowest_free_is m.nodes) (find_run m ((ks.kind kind).words n)) (find_run_is m ((ks.kind kind).words n))
+  where
+    go : (f : Option ℕ) → LowestNode m.nodes f → (r : Option ℕ) → Lowest m ((ks.kind kind).words n) r → (found ks m kind n rs f r).0 ≡ Err Words
+        → ((i : ℕ) × (i < length m.nodes) × (count_at m.nodes i ≡ 0)) × ((s : ℕ) → Room m ((ks.kind kind).words n) s → ⊥)
+    go None a r b e = absurd (let z : ◌≡◌ {A = ℕ} 0 1 = cc in omega arith)
+    go (Some i) a None b e = ((i, a.0, a.1), b)
+    go (Some i) a (Some s) b e = absurd (let z : ◌≡◌ {A = ℕ} 0 1 = cc in omega arith)
+
+pub refused_never : (ks : Kinds) (m : Memory) (kind n : ℕ) (rs : List Row) → (built ks m kind n rs).0 ≡ Err Height → ⊥
+refused_never ks m kind n rs = go (lowest_free m.nodes 0) (find_run m ((ks.kind kind).words n))
+  where
+    go : (f r : Option ℕ) → (found ks m kind n rs f r).0 ≡ Err Height → ⊥
+    go None r e = let z : ◌≡◌ {A = ℕ} 0 1 = cc in omega arith
+    go (Some i) None e = let z : ◌≡◌ {A = ℕ} 0 1 = cc in omega arith
+    go (Some i) (Some s) e = let z : ◌≡◌ {A = ℕ} 0 1 = cc in omega arith

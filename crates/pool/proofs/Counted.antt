@@ -162,7 +162,7 @@ pub above_lower : (a b : List Node) → ((k : ℕ) → height_at b k ≤ height_
 above_lower a b e [] = omega arith
 above_lower a b e (c ∷ cs) = omega (arith, e c, above_lower a b e cs)
 
-above_below : (ns : List Node) (cs : List ℕ) (h : ℕ) → ((c : ℕ) → 0 < times c cs → height_at ns c < h) → above ns cs ≤ h
+pub above_below : (ns : List Node) (cs : List ℕ) (h : ℕ) → ((c : ℕ) → 0 < times c cs → height_at ns c < h) → above ns cs ≤ h
 above_below ns [] h p = omega arith
 above_below ns (c ∷ cs) h p = omega (arith, p c (times_here c cs), above_below ns cs h (λ d q. p d (omega arith)))
 

@@ -1,63 +1,51 @@
 -- The children that slots name, in the order in which a chain gives them.
-use Rattle.std.proofs.Common.{◌≡◌, ℕ, zero, suc, ◌+◌, ◌<◌, ◌≤◌, max, false, List, [], ◌∷◌, ◌++◌, length, map, get_or, drop, map-id, Some, None, Option, unwrap_or, sym, refl, ap, ◌∙◌, subst, ap₂, arith, fold}
-use Rattle.std.specs.Array.Iter.{array_into_iter_items, array_steps}
+use Rattle.std.proofs.Common.{◌≡◌, Bor, Iter, ℕ, zero, suc, ◌+◌, ◌<◌, ◌≤◌, max, List, [], ◌∷◌, ◌++◌, length, map, get_or, drop, map-id, Some, None, Option, unwrap_or, sym, refl, ap, ◌∙◌, subst, ap₂, arith, fold}
+use Rattle.std.specs.Fn.{Mut, Called}
 use Rattle.std.specs.Iterator.{Yields}
-use Rattle.std.specs.Iterator.Adapters.{once_item, once_steps, flatten_source, flatten_front, flatten_back, flatten_done, flatten_steps}
-use Rattle.std.specs.List.{flat_map, reduce}
-use Rattle.std.specs.Option.{option_to_list}
-use Rattle.std.specs.declared.array.IntoIter.{IntoIter}
-use Rattle.std.specs.declared.iter.Flatten.{Flatten}
-use Rattle.std.specs.declared.iter.Once.{Once}
+use Rattle.std.specs.Iterator.Adapters.{filter_map_source, filter_map_callee, filter_map_steps}
+use Rattle.std.specs.List.{filter_map, reduce}
+use Rattle.std.specs.Slice.Iter.{iter_rest, iter_steps}
+use Rattle.std.specs.declared.iter.FilterMap.{FilterMap}
 use Rattle.std.proofs.lemmas.List.{take-append-drop, drop_more}
-use Rattle.std.proofs.lemmas.Iterator.{YieldsList}
-use Rattle.std.proofs.lemmas.Iterator.Adapters.{YieldsList-from_once, YieldsList-from_flatten}
-use Rattle.std.proofs.lemmas.Iterator.Consumers.{YieldsList-from_shown, YieldsList-so_far, YieldsList-turn, YieldsList-end}
+use Rattle.std.proofs.lemmas.Iterator.{YieldsList, YieldsList-from_slice}
+use Rattle.std.proofs.lemmas.Iterator.Consumers.{YieldsList-from_filter_map, YieldsList-so_far, YieldsList-turn, YieldsList-end}
 use Rattle.pool.specs.declared.node.Node.{Node}
 use Rattle.pool.specs.Memory.{Memory, height_at}
 use Rattle.pool.specs.Counts.{names, times, tallest}
 use Rattle.pool.specs.Sharing.{each_slot}
 use Rattle.pool.proofs.Counted.{hit_same}
 
-names_flat : (ss : List (Option ℕ)) → flat_map option_to_list ss ≡ names ss
-names_flat [] = refl
-names_flat (None ∷ ss) = names_flat ss
-names_flat (Some c ∷ ss) = ap (λ (l : List ℕ). c ∷ l) (names_flat ss)
+names_picked : (ss : List (Option ℕ)) → filter_map (λ o. o) ss ≡ names ss
+names_picked [] = refl
+names_picked (None ∷ ss) = names_picked ss
+names_picked (Some c ∷ ss) = ap (λ (l : List ℕ). c ∷ l) (names_picked ss)
 
 pub each_named : (f : Memory → ℕ → Memory) (m : Memory) (ss : List (Option ℕ)) → fold f m (names ss) ≡ each_slot f m ss
 each_named f m [] = refl
 each_named f m (None ∷ ss) = each_named f m ss
 each_named f m (Some c ∷ ss) = each_named f (f m c) ss
 
--- the chain `slots.into_iter().flatten()`, and what it gives where a slot becomes an iterator as the relation says
-abbrev pub Chain : Type 0
-Chain = Flatten (IntoIter (Option ℕ) 8) (Once ℕ)
+-- the chain `slots.iter().filter_map(|slot| *slot)` gives the children that the slots name
+pub names_given : {F : Type 0} {s : FilterMap (Iter (Option ℕ)) F} {g : Mut F (Bor (Option ℕ) × Unit {0}) (Option ℕ)} {f : F} (ss : List (Option ℕ)) → iter_rest (filter_map_source s) ≡ ss → filter_map_callee s ≡ f
+    → ((x : Bor (Option ℕ)) (r : Option ℕ) (q : F) → Called g f (x, tt) r q → (q ≡ f) × (r ≡ x.now)) → YieldsList (filter_map_steps iter_steps g) (λ x. x) s (names ss)
+names_given {F} {s} {g} ss source callee call =
+    subst (λ (l : List ℕ). YieldsList (filter_map_steps iter_steps g) (λ x. x) s l) (names_picked ss)
+    (YieldsList-from_filter_map g (λ o. o) (YieldsList-from_slice ss source) callee call)
 
-abbrev pub gives : (Option ℕ → Once ℕ → Type 0) → Chain → Option ℕ → Chain → Type 0
-gives becomes = flatten_steps array_steps becomes once_steps
+-- in a loop over it, the children so far are followed by this one, and at the end they are all
+module _ {S : Type 0} {steps : S → Option ℕ → S → Type 0} {s : S} (ss : List (Option ℕ)) (all : YieldsList steps (λ x. x) s (names ss))
+    (xs : List ℕ) (t : S) (ran : Yields steps s xs t) {r : Option ℕ} (u : S) (step : steps t r u) where
+  pub turn_splits : (c : ℕ) → r ≡ Some c → (rest : List ℕ) × (names ss ≡ xs ++ (c ∷ rest))
+  turn_splits c is =
+      let n : ℕ = length xs in
+      let at = YieldsList-turn all xs t ran r u c is step in (
+        drop (n + 1) (names ss),
+        sym (take-append-drop n (names ss))
+            ∙ ap₂ (λ (a b : List ℕ). a ++ b) (sym (YieldsList-so_far all xs t ran) ∙ map-id xs) (drop_more (names ss) n c at.0 ∙ ap (λ (x : ℕ). x ∷ drop (n + 1) (names ss)) (sym at.1)),
+      )
 
--- the iterator that a slot becomes has what the slot has
-module _ (becomes : Option ℕ → Once ℕ → Type 0) (opens : (x : Option ℕ) (j : Once ℕ) → becomes x j → once_item j ≡ x) (s : Chain) (ss : List (Option ℕ))
-    (start : (array_into_iter_items (flatten_source s) ≡ ss) × (flatten_front s ≡ None) × (flatten_back s ≡ None) × (flatten_done s ≡ false)) where
-  pub names_given : YieldsList (gives becomes) (λ x. x) s (names ss)
-  names_given =
-      subst (λ (l : List ℕ). YieldsList (gives becomes) (λ x. x) s l) (names_flat ss)
-      (YieldsList-from_flatten becomes once_steps (λ x. x) option_to_list (λ x j b. YieldsList-from_once x (opens x j b))
-      (subst (λ l. YieldsList array_steps (λ x. x) (flatten_source s) l) start.0 (YieldsList-from_shown array_steps (λ x. x) array_into_iter_items (λ t u h. h.0) (λ t x u h. h) (flatten_source s)))
-      start.1 start.2 start.3)
-
-  -- in a loop over it, the children so far are followed by this one, and at the end they are all
-  module _ (xs : List ℕ) (t : Chain) (ran : Yields (gives becomes) s xs t) {r : Option ℕ} (u : Chain) (step : gives becomes t r u) where
-    pub turn_splits : (c : ℕ) → r ≡ Some c → (rest : List ℕ) × (names ss ≡ xs ++ (c ∷ rest))
-    turn_splits c is =
-        let n : ℕ = length xs in
-        let at = YieldsList-turn names_given xs t ran r u c is step in (
-          drop (n + 1) (names ss),
-          sym (take-append-drop n (names ss))
-              ∙ ap₂ (λ (a b : List ℕ). a ++ b) (sym (YieldsList-so_far names_given xs t ran) ∙ map-id xs) (drop_more (names ss) n c at.0 ∙ ap (λ (x : ℕ). x ∷ drop (n + 1) (names ss)) (sym at.1)),
-        )
-
-    pub end_gives : (f : Memory → ℕ → Memory) (m : Memory) → r ≡ None → fold f m xs ≡ each_slot f m ss
-    end_gives f m is = ap (λ (cs : List ℕ). fold f m cs) (sym (map-id xs) ∙ (YieldsList-end names_given xs t ran r u is step).0) ∙ each_named f m ss
+  pub end_gives : (f : Memory → ℕ → Memory) (m : Memory) → r ≡ None → fold f m xs ≡ each_slot f m ss
+  end_gives f m is = ap (λ (cs : List ℕ). fold f m cs) (sym (map-id xs) ∙ (YieldsList-end all xs t ran r u is step).0) ∙ each_named f m ss
 
 pub names_long : (ss : List (Option ℕ)) → length (names ss) ≤ length ss
 names_long [] = omega arith

@@ -80,7 +80,7 @@ names_good f r m (c ∷ xs) hs s t =
     let rest : Good b (fold (released f) b xs) hs = names_good f r b xs hs one.sound (omega (arith, spared_above m b one.spared xs)) in
     good_trans m b (fold (released f) b xs) (xs ++ hs) hs one rest
 
-slots_good : (f : ℕ) → Releases f → (m : Memory) (ss : List (Option ℕ)) (hs : List ℕ) → Sound m (names ss ++ hs) → above m.nodes (names ss) ≤ f → Good m (each_slot (released f) m ss) hs
+pub slots_good : (f : ℕ) → Releases f → (m : Memory) (ss : List (Option ℕ)) (hs : List ℕ) → Sound m (names ss ++ hs) → above m.nodes (names ss) ≤ f → Good m (each_slot (released f) m ss) hs
 slots_good f r m ss hs s t = subst (λ (b : Memory). Good m b hs) (each_named (released f) m ss) (names_good f r m (names ss) hs s t)
 
 pub released_good : (f : ℕ) → Releases f

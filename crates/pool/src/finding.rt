@@ -31,7 +31,9 @@ impl Pool<'_> {
             .map(|words| words.end)
     }
 
-    // The lowest start of n unused words in a row.
+    // The lowest start of n unused words in a row. Not inlined: the search goes over all nodes again and again, and in a
+    // larger function it lacks a register.
+    #[inline(never)]
     pub fn find_run(&self, n: u16) -> Option<u16>
         requires { length self.now.words.now ≤ 65535 }
         ensures value { result ≡ find_run (memory_of self.now) n }

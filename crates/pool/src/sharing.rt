@@ -48,7 +48,9 @@ impl Pool<'_> {
         requires within { Within self.old.nodes.now self.old.words.now }
         ensures { (f : ℕ) → tallest self.old.nodes.now slots < f → memory_of self.new ≡ each_slot (released f) (memory_of self.old) slots }
     {
-        for child in slots.into_iter().flatten() {
+        // not `flatten` of the array itself, whose iterator first takes over each slot: a release then took 2.7 times the
+        // instructions
+        for child in slots.iter().filter_map(|slot| *slot) {
             self.release(child);
         }
     }

@@ -20,7 +20,7 @@ impl Pool<'_> {
         requires room { (k : ℕ) → count_at self.old.nodes.now k + 8 < 65536 }
         ensures { memory_of self.new ≡ each_slot retained (memory_of self.old) slots }
     {
-        for child in slots.into_iter().flatten() {
+        for child in slots.iter().filter_map(|slot| *slot) {
             self.retain(child);
         }
     }
@@ -49,8 +49,8 @@ impl Pool<'_> {
         ensures { result ≡ tallest self.now.nodes.now slots }
     {
         slots
-            .into_iter()
-            .flatten()
+            .iter()
+            .filter_map(|slot| *slot)
             .map(|child| self.nodes[child as usize].height)
             .max()
             .unwrap_or(0)

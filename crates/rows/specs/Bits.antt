@@ -1,12 +1,15 @@
 -- A word with another bit in it.
-use Rattle.std.specs.Prelude.{◌≡◌, ℕ, ◌+◌, ◌-◌, ◌*◌, ◌/◌, ◌%◌, ◌^◌, ◌<◌, ◌≢◌}
+use Rattle.std.specs.Prelude.{◌≡◌, ℕ, ◌+◌, ◌-◌, ◌*◌, ◌/◌, ◌%◌, ◌^◌, ◌<◌, ◌≤◌, ◌≢◌}
 use Rattle.std.proofs.Common.{sym, ap, subst, ◌∙◌, ⊎_elim, add-mul, arith}
-use Rattle.std.proofs.lemmas.Nat.{pow_pos, pow-add, shr-shr, shr_split, mod-pow-add, field_of, mul-add-lt, mod_below, shr_below, shr_high, mod_low}
+use Rattle.std.proofs.lemmas.Nat.{pow_pos, pow-add, shr-shr, shr_split, mod-pow-add, field_of, mul-add-lt, mod_below, shr_below, shl_whole, shr_high, mod_low}
 use Rattle.std.proofs.lemmas.Bool.{cases_order}
 use Rattle.rows.specs.Ours.{bit, with_bit}
 
 pub bit_small : (w j : ℕ) → bit w j < 2
 bit_small w j = omega arith
+
+pub bit_shifted : (v j : ℕ) → v < 2 → j < 32 → (v * 2 ^ j) % 2 ^ 32 ≡ v * 2 ^ j
+bit_shifted v j h l = shl_whole v 1 j 32 h (omega arith)
 
 -- a word is what is above a bit, the bit, and what is below it
 pub word_split : (w j : ℕ) → (w / 2 ^ j / 2 * 2) * 2 ^ j + bit w j * 2 ^ j + w % 2 ^ j ≡ w
@@ -14,6 +17,9 @@ word_split w j =
     let d : (w / 2 ^ j / 2 * 2 + bit w j) * 2 ^ j ≡ (w / 2 ^ j / 2 * 2) * 2 ^ j + bit w j * 2 ^ j = add-mul (w / 2 ^ j / 2 * 2) (bit w j) (2 ^ j) in
     let e : (w / 2 ^ j / 2 * 2 + bit w j) * 2 ^ j ≡ w / 2 ^ j * 2 ^ j = ap (λ (x : ℕ). x * 2 ^ j) (omega arith) in
     omega (arith, d, e, shr_split w j)
+
+pub bit_within : (w j : ℕ) → bit w j * 2 ^ j ≤ w
+bit_within w j = omega (arith, word_split w j)
 
 pub with_bit_is : (w j v : ℕ) → with_bit w j v ≡ (w / 2 ^ j / 2 * 2 + v) * 2 ^ j + w % 2 ^ j
 with_bit_is w j v = omega (arith, word_split w j, add-mul (w / 2 ^ j / 2 * 2) v (2 ^ j))

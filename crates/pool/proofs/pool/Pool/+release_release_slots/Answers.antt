@@ -4,7 +4,7 @@ use Rattle.pool.specs.Memory.{Memory, slots_at, start_at, run_at, overwritten, w
 use Rattle.pool.specs.Order.{Within}
 use Rattle.pool.specs.Sharing.{vacated, each_slot, released}
 use Rattle.pool.specs.Seen.{memory_of}
-use Rattle.pool.proofs.Naming.{turn_splits, end_gives}
+use Rattle.pool.proofs.Naming.{names_given, turn_splits, end_gives}
 use Rattle.pool.proofs.Releasing.{code_sound, code_last, code_less, last_good, last_low, next_good, next_low, next_gives}
 use Rattle.pool.proofs.pool.Pool.+release_release_slots.Goals as goal
 
@@ -49,7 +49,7 @@ release_slots-release-requires t c =
     let m : Memory = memory_of c.args.self.now in
     let q = c.requires in
     let xs : List ℕ = c.loop-child.yielded in
-    let s = turn_splits _ (λ x j b. b.0) _ c.args.slots (search rules) xs _ c.loop-child.yielded_by _ c.next.ensures.steps c.in-Some.child c.in-Some.is in
+    let s = turn_splits c.args.slots (names_given c.args.slots (search rules) (search rules) (λ x r q k. search rules)) xs _ c.loop-child.yielded_by _ c.next.ensures.steps c.in-Some.child c.in-Some.is in
     let g = next_good m c.args.slots q.owed q.falling q.within xs s.0 c.in-Some.child s.1 (memory_of c.loop-child.self) c.loop-child.invariant in
     let l = next_low m c.args.slots q.owed q.falling q.within xs s.0 c.in-Some.child s.1 (memory_of c.loop-child.self) c.loop-child.invariant in
     (omega (arith, l, c.decreases), ((_, g.sound.counts), (g.sound.falling, g.sound.within)))
@@ -58,10 +58,10 @@ pub release_slots-loop-child-preserved : goal.release_slots-loop-child-preserved
 release_slots-loop-child-preserved t c =
     let q = c.requires in
     let xs : List ℕ = c.loop-child.yielded in
-    let s = turn_splits _ (λ x j b. b.0) _ c.args.slots (search rules) xs _ c.loop-child.yielded_by _ c.next.ensures.steps c.in-Some.child c.in-Some.is in
+    let s = turn_splits c.args.slots (names_given c.args.slots (search rules) (search rules) (λ x r q k. search rules)) xs _ c.loop-child.yielded_by _ c.next.ensures.steps c.in-Some.child c.in-Some.is in
     next_gives (memory_of c.args.self.now) c.args.slots q.owed q.falling q.within xs s.0 c.in-Some.child s.1 (memory_of c.loop-child.self) c.loop-child.invariant (memory_of c.release.new.self) c.release.ensures
 
 pub release_slots-returns : goal.release_slots-returns
 release_slots-returns t c f h =
     c.loop-child.invariant f h
-    ∙ end_gives _ (λ x j b. b.0) _ c.args.slots (search rules) c.loop-child.yielded _ c.loop-child.yielded_by _ c.next.ensures.steps (released f) (memory_of c.args.self.now) c.in-None.is
+    ∙ end_gives c.args.slots (names_given c.args.slots (search rules) (search rules) (λ x r q k. search rules)) c.loop-child.yielded _ c.loop-child.yielded_by _ c.next.ensures.steps (released f) (memory_of c.args.self.now) c.in-None.is

@@ -1,8 +1,8 @@
-use Rattle.std.proofs.Common.{ℕ, List, length, ap, ◌∙◌, arith, rules}
+use Rattle.std.proofs.Common.{ℕ, List, ◌∙◌, arith, rules}
 use Rattle.pool.specs.Memory.{Memory}
 use Rattle.pool.specs.Sharing.{retained}
 use Rattle.pool.specs.Seen.{memory_of}
-use Rattle.pool.proofs.Naming.{turn_splits, end_gives}
+use Rattle.pool.proofs.Naming.{names_given, turn_splits, end_gives}
 use Rattle.pool.proofs.Copying.{retain_next}
 use Rattle.pool.proofs.pool.Pool.retain_slots.Goals as goal
 
@@ -11,12 +11,11 @@ retain-requires c =
     let m : Memory = memory_of c.args.self.now in
     let xs : List ℕ = c.loop-child.yielded in
     let child : ℕ = c.in-Some.child in
-    let s = turn_splits _ (λ x j b. b.0) _ c.args.slots (search rules) xs _ c.loop-child.yielded_by _ c.next.ensures.steps child c.in-Some.is in
+    let s = turn_splits c.args.slots (names_given c.args.slots (search rules) (search rules) (λ x r q k. search rules)) xs _ c.loop-child.yielded_by _ c.next.ensures.steps child c.in-Some.is in
     let n = retain_next m c.args.slots c.requires.used xs s.0 child s.1 (memory_of c.loop-child.self) c.loop-child.invariant in
-    let eight = c.into_iter.ensures.into_iter_gives in
-    record { used = n.0; room = omega (arith, n.1, c.requires.room child, eight.1, ap length eight.0) }
+    record { used = n.0; room = omega (arith, n.1, c.requires.room child) }
 
 pub returns : goal.returns
 returns c =
     c.loop-child.invariant
-    ∙ end_gives _ (λ x j b. b.0) _ c.args.slots (search rules) c.loop-child.yielded _ c.loop-child.yielded_by _ c.next.ensures.steps retained (memory_of c.args.self.now) c.in-None.is
+    ∙ end_gives c.args.slots (names_given c.args.slots (search rules) (search rules) (λ x r q k. search rules)) c.loop-child.yielded _ c.loop-child.yielded_by _ c.next.ensures.steps retained (memory_of c.args.self.now) c.in-None.is

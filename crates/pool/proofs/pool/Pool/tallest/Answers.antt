@@ -9,7 +9,7 @@ use Rattle.pool.proofs.pool.Pool.tallest.Goals as goal
 pub max-requires-clause-can : goal.max-requires-clause-can
 max-requires-clause-can c = (
   search rules,
-  serves_from_places (names_given _ (λ x j b. b.0) _ c.args.slots (search rules)) (λ x q r. search rules)
+  serves_from_places (names_given c.args.slots (search rules) (search rules) (λ x r q k. search rules)) (λ x q r. search rules)
       (λ x k a b. let l = c.requires x (times_at _ k x a b) in search rules),
 )
 
@@ -20,5 +20,5 @@ returns c =
     ∙ ap (λ (o : Option ℕ). unwrap_or o 0)
     (sym (option_map_id c.max.result)
     ∙ max_from_yields_List c.map.result c.max.result c.max.ensures.ran
-    (YieldsList-from_map _ h (YieldsList-at c.map.ensures.source (names_given _ (λ x j b. b.0) _ c.args.slots (search rules))) c.map.ensures.closure (λ x r q k. search rules)))
+    (YieldsList-from_map _ h (YieldsList-at c.map.ensures.source (names_given c.args.slots (search rules) (search rules) (λ x r q k. search rules))) c.map.ensures.closure (λ x r q k. search rules)))
     ∙ tallest_named c.args.self.now.nodes.now c.args.slots
